@@ -8,11 +8,15 @@
 mod memory_sink;
 mod memory_source;
 mod reading;
+mod standard;
+mod sure_source;
 mod writing;
 
 pub use memory_sink::MemSink;
 pub use memory_source::MemSource;
 pub use reading::{Got, Source};
+pub use standard::{RealIn, RealOut};
+pub use sure_source::SureSource;
 pub use writing::{Failed, Sink};
 
 /// Want of memory, where it is all that can go wrong in a call.
