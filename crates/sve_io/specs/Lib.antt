@@ -1,4 +1,4 @@
 pub mod Faults
-pub mod Bytes
+pub mod Moves
 pub mod Reading
 pub mod Memory

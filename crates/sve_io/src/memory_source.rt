@@ -1,7 +1,7 @@
 // Sources over bytes in memory.
 ghost use Rattle.std.specs.Prelude.{◌≡◌, ◌≤◌, ◌<◌, ◌↔◌, ◌++◌, [], Contains, IfSome, length, min, take, drop};
 ghost use Rattle.sve_io.specs.Faults.{counted, HasRisen};
-ghost use Rattle.sve_io.specs.Bytes.{Advances, Loses};
+ghost use Rattle.sve_io.specs.Moves.{Advances, Loses};
 ghost use Rattle.sve_io.specs.Reading.{bytes_moved, IfBytes, UnlessBytes, OnEnd, OnFailed, UnlessFailed};
 
 use super::reading::{Got, Source};
@@ -97,5 +97,61 @@ impl Source for MemSource {
         into[..count].copy_from_slice(&left[..count]);
         self.taken += count;
         Got::Bytes(count)
+    }
+}
+
+#[cfg(test)]
+mod tests {
+    use super::*;
+    use std::test::Fail;
+
+    #[test]
+    fn gives_fails_and_ends_as_it_is_told(rt: HostRuntime) -> Result<(), Fail> {
+        let bytes = b"abcdefgh".to_vec(rt.alloc())?;
+        let failing = [3, 2, 9].to_vec(rt.alloc())?;
+        let mut source = MemSource::new(bytes, 4, failing);
+        let table = [
+            (8, Got::Bytes(4), "abcd...."),
+            (8, Got::Failed, "........"),
+            (0, Got::Failed, "........"),
+            (0, Got::Bytes(0), "........"),
+            (3, Got::Bytes(3), "efg....."),
+            (8, Got::Bytes(1), "h......."),
+            (8, Got::End, "........"),
+            (0, Got::End, "........"),
+            (8, Got::Failed, "........"),
+            (8, Got::End, "........"),
+        ];
+        for (room, answer, after) in table {
+            let mut buffer = *b"........";
+            assert!(rt; room <= buffer.len());
+            assert_eq!(rt;
+                source.read(&mut buffer[..room]),
+                answer,
+                "room {room}, {after}"
+            );
+            assert_eq!(rt; buffer.as_slice(), after.as_bytes());
+        }
+        assert_eq!(rt; source.calls, 10);
+        assert_eq!(rt; source.faults, 3);
+        Ok(())
+    }
+
+    #[test]
+    fn counts_stand_at_their_last_value(rt: HostRuntime) -> Result<(), Fail> {
+        let mut source = MemSource {
+            bytes: b"a".to_vec(rt.alloc())?,
+            taken: 0,
+            most: 1,
+            failing: [u64::MAX].to_vec(rt.alloc())?,
+            calls: u64::MAX - 1,
+            faults: u64::MAX,
+        };
+        for _ in 0..2 {
+            assert_eq!(rt; source.read(&mut [0]), Got::Failed);
+            assert_eq!(rt; source.calls, u64::MAX);
+            assert_eq!(rt; source.faults, u64::MAX);
+        }
+        Ok(())
     }
 }

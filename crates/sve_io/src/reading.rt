@@ -1,7 +1,7 @@
 // Where bytes come from.
 ghost use Rattle.std.specs.Prelude.{◌≡◌, ℕ, ◌≤◌, List, [], Option, IfSome, length, take, drop};
 ghost use Rattle.sve_io.specs.Faults.{HasRisen};
-ghost use Rattle.sve_io.specs.Bytes.{Advances, Loses};
+ghost use Rattle.sve_io.specs.Moves.{Advances, Loses};
 ghost use Rattle.sve_io.specs.Reading.{bytes_moved, IfBytes, UnlessBytes, OnEnd, OnFailed, UnlessFailed};
 
 /// What one read of a [`Source`] gave.

@@ -2,7 +2,7 @@
 // they carry no contract can tell.
 ghost use Rattle.std.specs.Prelude.{◌≡◌, ◌≤◌, ◌<◌, IfOk, OnOk, OnErr, length};
 ghost use Rattle.sve_io.specs.Faults.{counted, HasRisen};
-ghost use Rattle.sve_io.specs.Bytes.{Advances};
+ghost use Rattle.sve_io.specs.Moves.{Advances};
 ghost use Rattle.sve_io.specs.Reading.{IfBytes, OnFailed, UnlessFailed};
 
 use super::reading::{Got, Source};
@@ -167,4 +167,94 @@ fn write_uninterrupted<W: Write>(output: &mut W, piece: &[u8]) -> io::Result<usi
         }
     }
     output.write(piece)
+}
+
+#[cfg(test)]
+mod tests {
+    use super::*;
+
+    // An end that is interrupted, moves a byte, is interrupted, fails, and then moves none.
+    #[derive(Drop)]
+    struct Fake {
+        calls: u8,
+    }
+
+    impl Fake {
+        fn next(&mut self) -> io::Result<usize>
+            ensures { IfOk result (λ count. count ≤ 1) }
+        {
+            self.calls = self.calls.saturating_add(1);
+            match self.calls {
+                1 | 3 => Err(ErrorKind::Interrupted.into()),
+                2 => Ok(1),
+                4 => Err(ErrorKind::PermissionDenied.into()),
+                _ => Ok(0),
+            }
+        }
+    }
+
+    impl Read for Fake {
+        fn read(&mut self, into: &mut [u8]) -> io::Result<usize> {
+            Ok(self.next()?.min(into.len()))
+        }
+    }
+
+    impl Write for Fake {
+        fn write(&mut self, piece: &[u8]) -> io::Result<usize> {
+            Ok(self.next()?.min(piece.len()))
+        }
+
+        fn flush(&mut self) -> io::Result<()> {
+            Ok(())
+        }
+    }
+
+    #[test]
+    fn reads_again_and_counts_errors(rt: HostRuntime) {
+        let mut input = Fake { calls: 0 };
+        let mut faults = u64::MAX - 1;
+        let table = [
+            (0, Got::Bytes(0), u64::MAX - 1),
+            (2, Got::Bytes(1), u64::MAX - 1),
+            (2, Got::Failed, u64::MAX),
+            (2, Got::End, u64::MAX),
+        ];
+        for (room, answer, count) in table {
+            let mut buffer = *b"..";
+            assert!(rt; room <= buffer.len());
+            assert_eq!(rt;
+                read_counting(&mut input, &mut faults, &mut buffer[..room]),
+                answer
+            );
+            assert_eq!(rt; faults, count);
+        }
+    }
+
+    #[test]
+    fn writes_again_and_counts_errors(rt: HostRuntime) {
+        let mut output = Fake { calls: 0 };
+        let mut faults = u64::MAX - 1;
+        let table = [
+            ("", Ok(0), u64::MAX - 1),
+            ("ab", Ok(1), u64::MAX - 1),
+            ("b", Err(Failed), u64::MAX),
+            ("b", Err(Failed), u64::MAX),
+        ];
+        for (piece, answer, count) in table {
+            assert_eq!(rt;
+                write_counting(&mut output, &mut faults, piece.as_bytes()),
+                answer
+            );
+            assert_eq!(rt; faults, count);
+        }
+    }
+
+    #[test]
+    fn the_standard_streams_are_ends(rt: HostRuntime) {
+        let mut input = RealIn::new(rt.stdin());
+        let mut output = RealOut::new(rt.stdout());
+        assert_eq!(rt; input.read(&mut []), Got::Bytes(0));
+        assert_eq!(rt; output.write(b"\n"), Ok(1));
+        assert_eq!(rt; output.write(b""), Ok(0));
+    }
 }

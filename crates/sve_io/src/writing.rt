@@ -1,7 +1,7 @@
 // Where bytes go.
 ghost use Rattle.std.specs.Prelude.{◌≡◌, ℕ, ◌≤◌, List, Option, IfOk, OnOk, OnErr, length, take};
 ghost use Rattle.sve_io.specs.Faults.{HasRisen};
-ghost use Rattle.sve_io.specs.Bytes.{Advances, Gains};
+ghost use Rattle.sve_io.specs.Moves.{Advances, Gains};
 
 /// A sink failed, and counted the fault. It took no byte of the piece.
 #[derive(Clone, Copy, Debug, PartialEq, Eq)]
