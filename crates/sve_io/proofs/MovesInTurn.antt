@@ -1,5 +1,5 @@
 -- What several reads or writes move, one after the other: for loops over a source or a sink.
-use Rattle.std.proofs.Common.{◌≡◌, ℕ, ◌<◌, ◌≤◌, List, [], ◌++◌, Option, None, Some, IfSome, refl, sym, ◌∙◌, ap, append_assoc, append-nil, arith}
+use Rattle.std.proofs.Common.{◌≡◌, ℕ, ◌≤◌, List, [], ◌++◌, Option, None, Some, IfSome, refl, sym, ap, append_assoc, append-nil, arith}
 use Rattle.sve_io.specs.Faults.{HasRisen}
 use Rattle.sve_io.specs.Moves.{Loses, Gains}
 
