@@ -1,4 +1,4 @@
--- Words for what a read answered.
+-- Words for what a read answered (own).
 use Rattle.std.specs.Prelude.{ℕ, ⊤}
 use Rattle.sve_io.specs.declared.reading.Got.{Got}
 use Rattle.sve_io.specs.declared.reading.Got.TheVariants.{Bytes, End, Failed}

@@ -1,6 +1,7 @@
 // A sink that keeps its bytes in memory.
-ghost use Rattle.std.specs.Prelude.{◌≡◌, ◌≤◌, ◌<◌, ◌↔◌, ◌⊎◌, ◌++◌, ◌-◌, [], Contains, IfOk, OnOk, OnErr, IsErr, length, min, take};
+ghost use Rattle.std.specs.Prelude.{◌≡◌, ◌≤◌, ◌<◌, ◌↔◌, ◌⊎◌, ◌++◌, ◌-◌, [], IfOk, OnOk, OnErr, IsErr, length, min, take};
 ghost use Rattle.sve_io.specs.Faults.{counted, HasRisen};
+ghost use Rattle.sve_io.specs.Memory.{NextFails};
 ghost use Rattle.sve_io.specs.Moves.{Advances};
 
 use super::NoMemory;
@@ -21,7 +22,7 @@ pub struct MemSink {
 }
 
 impl Model for MemSink {
-    ghost use Rattle.std.specs.Prelude.{ℕ, ◌+◌, ◌<◌, ◌≤◌, length, vec_capacity, vec_len};
+    ghost use Rattle.std.specs.Prelude.{ℕ, ◌+◌, ◌<◌, ◌≤◌, vec_capacity, vec_len};
     ghost use Rattle.sve_io.specs.Memory.{SinkValue};
 
     ghost Value = { SinkValue };
@@ -40,8 +41,9 @@ impl Model for MemSink {
 
 impl MemSink {
     /// An empty sink with room for `room` bytes, which it reserves: want of memory comes here and
-    /// at no write. A call takes at most `most` bytes, and the calls whose numbers are in `failing`,
-    /// counted from 1, fail.
+    /// at no write. A call takes at most `most` bytes, which is at least 1. The calls whose numbers
+    /// are in `failing`, in any order and counted from 1, fail. Calls past number 2^64 - 1 all have
+    /// that number.
     pub fn new(
         alloc: Global,
         most: usize,
@@ -50,7 +52,14 @@ impl MemSink {
     ) -> Result<MemSink, NoMemory>
         requires { 0 < most }
         ensures { IfOk result (λ sink.
-            sink ≡ record { held = []; room = room; most = most; failing = failing.items; calls = 0; faults = 0 }) }
+            sink ≡ record {
+              held = [];
+              room = room;
+              most = most;
+              failing = failing.items;
+              calls = 0;
+              faults = 0;
+            }) }
     {
         let bytes = Vec::with_capacity(alloc, room)?;
         Ok(MemSink {
@@ -81,8 +90,10 @@ impl Sink for MemSink {
     fn write(&mut self, piece: &[u8]) -> Result<usize, Failed>
         // A listed call fails, and so does one that has bytes to write where no room is left. Any
         // other takes as many bytes as the step, the piece and the room allow.
-        ensures fails { IsErr result ↔ (Contains self.old.failing (counted self.old.calls) ⊎ ((self.old.room ≡ 0) × (0 < length piece.now))) }
-        ensures takes { IfOk result (λ count. count ≡ min self.old.most (min (length piece.now) self.old.room)) }
+        ensures fails { IsErr result ↔ (NextFails self.old.failing self.old.calls
+            ⊎ ((self.old.room ≡ 0) × (0 < length piece.now))) }
+        ensures takes { IfOk result (λ count.
+            count ≡ min self.old.most (min (length piece.now) self.old.room)) }
 
         // The bytes taken come behind what was held, and use up room.
         ensures held { IfOk result (λ count. self.new.held ≡ self.old.held ++ take count piece.now) }
@@ -107,13 +118,10 @@ impl Sink for MemSink {
             return Err(Failed);
         }
         let count = self.most.min(piece.len()).min(self.room);
-        match self.bytes.extend_from_slice(&piece[..count]) {
-            Ok(()) => {
-                self.room -= count;
-                Ok(count)
-            }
-            Err(_) => unreachable!(),
-        }
+        // The room was reserved, so this takes no memory.
+        self.bytes.extend_from_slice(&piece[..count]).unwrap();
+        self.room -= count;
+        Ok(count)
     }
 }
 

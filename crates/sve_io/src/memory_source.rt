@@ -1,8 +1,9 @@
 // Sources over bytes in memory.
-ghost use Rattle.std.specs.Prelude.{◌≡◌, ◌≤◌, ◌<◌, ◌↔◌, ◌++◌, [], Contains, IfSome, length, min, take, drop};
+ghost use Rattle.std.specs.Prelude.{◌≡◌, ◌≤◌, ◌<◌, ◌↔◌, ◌++◌, [], length, min, take, drop};
 ghost use Rattle.sve_io.specs.Faults.{counted, HasRisen};
-ghost use Rattle.sve_io.specs.Moves.{Advances, Loses};
-ghost use Rattle.sve_io.specs.Reading.{bytes_moved, IfBytes, UnlessBytes, OnEnd, OnFailed, UnlessFailed};
+ghost use Rattle.sve_io.specs.Memory.{NextFails};
+ghost use Rattle.sve_io.specs.Moves.{Advances};
+ghost use Rattle.sve_io.specs.Reading.{bytes_moved, IfBytes, OnFailed, UnlessFailed};
 
 use super::reading::{Got, Source};
 use std::marker::Model;
@@ -37,11 +38,18 @@ impl Model for MemSource {
 }
 
 impl MemSource {
-    /// A source of `bytes`, in order. A call moves at most `most` bytes, and the calls whose numbers
-    /// are in `failing`, counted from 1, fail. It takes no memory.
+    /// A source of `bytes`, in order. A call moves at most `most` bytes, which is at least 1. The
+    /// calls whose numbers are in `failing`, in any order and counted from 1, fail. Calls past number
+    /// 2^64 - 1 all have that number. It takes no memory.
     pub fn new(bytes: Vec<u8>, most: usize, failing: Vec<u64>) -> MemSource
         requires { 0 < most }
-        ensures { result ≡ record { left = bytes.items; most = most; failing = failing.items; calls = 0; faults = 0 } }
+        ensures { result ≡ record {
+          left = bytes.items;
+          most = most;
+          failing = failing.items;
+          calls = 0;
+          faults = 0;
+        } }
     {
         MemSource {
             bytes,
@@ -64,9 +72,11 @@ impl Source for MemSource {
     fn read(&mut self, into: &mut [u8]) -> Got
         // A listed call fails. Any other gives the end where nothing is left, and else as many
         // bytes as the step, the buffer and what is left allow.
-        ensures fails { (result ≡ Got.Failed) ↔ Contains self.old.failing (counted self.old.calls) }
-        ensures ends { (result ≡ Got.End) ↔ ((self.old.left ≡ []) × ¬ Contains self.old.failing (counted self.old.calls)) }
-        ensures gives { IfBytes result (λ count. count ≡ min self.old.most (min (length into.old) (length self.old.left))) }
+        ensures fails { (result ≡ Got.Failed) ↔ NextFails self.old.failing self.old.calls }
+        ensures ends { (result ≡ Got.End)
+            ↔ ((self.old.left ≡ []) × ¬ NextFails self.old.failing self.old.calls) }
+        ensures gives { IfBytes result (λ count.
+            count ≡ min self.old.most (min (length into.old) (length self.old.left))) }
 
         // The bytes stand at the front of the buffer, and the rest of it is as before.
         ensures buffer { into.new ≡ take (bytes_moved result) self.old.left ++ drop (bytes_moved result) into.old }

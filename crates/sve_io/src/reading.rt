@@ -25,11 +25,13 @@ pub trait Source {
     // How often the source has failed. As a number of 64 bits it stands at its last value.
     ghost faults: { Self → ℕ };
 
-    /// Reads once: puts the next bytes at the front of `into`, as many as suit the source.
+    /// Reads once: puts the next bytes at the front of `into`, as many as suit the source and at
+    /// least one where there is room and something is left. After a failure it may be called again.
     fn read(&mut self, into: &mut [u8]) -> Got
         // Bytes come off the front of what is left and stand at the front of the buffer.
         ensures size { IfBytes result (λ count. Advances count (length into.old)) }
-        ensures moved { IfBytes result (λ count. Loses (left self.old) (left self.new) (take count into.new)) }
+        ensures moved { IfBytes result (λ count.
+            Loses (left self.old) (left self.new) (take count into.new)) }
         ensures rest { IfSome (left self.old) (λ _.
             drop (bytes_moved result) into.new ≡ drop (bytes_moved result) into.old) }
 

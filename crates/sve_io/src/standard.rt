@@ -1,6 +1,6 @@
 // Standard input and output as source and sink: a few lines that count errors. Of the bytes that
 // they carry no contract can tell.
-ghost use Rattle.std.specs.Prelude.{◌≡◌, ◌≤◌, ◌<◌, IfOk, OnOk, OnErr, length};
+ghost use Rattle.std.specs.Prelude.{◌≡◌, ◌≤◌, IfOk, OnOk, OnErr, length};
 ghost use Rattle.sve_io.specs.Faults.{counted, HasRisen};
 ghost use Rattle.sve_io.specs.Moves.{Advances};
 ghost use Rattle.sve_io.specs.Reading.{IfBytes, OnFailed, UnlessFailed};
@@ -28,7 +28,7 @@ impl Model for RealIn {
 }
 
 impl RealIn {
-    /// Standard input, with no fault counted yet.
+    /// Standard input as the runtime hands it out, with no fault counted yet.
     pub fn new(input: Stdin) -> RealIn
         ensures { result ≡ 0 }
     {
@@ -74,7 +74,7 @@ impl Model for RealOut {
 }
 
 impl RealOut {
-    /// Standard output, with no fault counted yet.
+    /// Standard output as the runtime hands it out, with no fault counted yet.
     pub fn new(output: Stdout) -> RealOut
         ensures { result ≡ 0 }
     {
@@ -143,7 +143,7 @@ fn write_counting<W: Write>(output: &mut W, faults: &mut u64, piece: &[u8]) -> R
     }
 }
 
-// Reads again while the read was interrupted.
+// Reads again while the read was interrupted. No program is interrupted so often that the loop ends.
 fn read_uninterrupted<R: Read>(input: &mut R, into: &mut [u8]) -> io::Result<usize>
     ensures { IfOk result (λ count. count ≤ length into.new) }
 {
@@ -156,7 +156,7 @@ fn read_uninterrupted<R: Read>(input: &mut R, into: &mut [u8]) -> io::Result<usi
     input.read(into)
 }
 
-// Writes again while the write was interrupted.
+// Writes again while the write was interrupted, with the same bound.
 fn write_uninterrupted<W: Write>(output: &mut W, piece: &[u8]) -> io::Result<usize>
     ensures { IfOk result (λ count. count ≤ length piece.now) }
 {

@@ -1,5 +1,5 @@
 // A source over bytes in memory that never fails.
-ghost use Rattle.std.specs.Prelude.{◌≡◌, ◌≢◌, ◌≤◌, ◌↔◌, ◌++◌, [], IfSome, length, min, take, drop};
+ghost use Rattle.std.specs.Prelude.{◌≡◌, ◌≢◌, ◌↔◌, ◌++◌, [], length, min, take, drop};
 ghost use Rattle.sve_io.specs.Reading.{bytes_moved, IfBytes};
 
 use super::reading::{Got, Source};
@@ -42,7 +42,8 @@ impl Source for SureSource {
     fn read(&mut self, into: &mut [u8]) -> Got
         ensures never_fails { result ≢ Got.Failed }
         ensures ends { (result ≡ Got.End) ↔ (self.old ≡ []) }
-        ensures gives { IfBytes result (λ count. count ≡ min (length into.old) (length self.old)) }
+        ensures gives { IfBytes result (λ count.
+            count ≡ min (length into.old) (length self.old)) }
         ensures buffer { into.new ≡ take (bytes_moved result) self.old ++ drop (bytes_moved result) into.old }
         ensures left { self.new ≡ drop (bytes_moved result) self.old }
     {

@@ -17,11 +17,12 @@ pub trait Sink {
     ghost faults: { Self → ℕ };
 
     /// Writes once: takes bytes from the front of `piece`, as many as suit the sink, and says how
-    /// many. That is 0 only where the piece is empty.
+    /// many. That is 0 only where the piece is empty. After a failure it may be called again.
     fn write(&mut self, piece: &[u8]) -> Result<usize, Failed>
         // The bytes taken are those at the front of the piece, and come behind what is held.
         ensures size { IfOk result (λ count. Advances count (length piece.now)) }
-        ensures moved { IfOk result (λ count. Gains (held self.old) (held self.new) (take count piece.now)) }
+        ensures moved { IfOk result (λ count.
+            Gains (held self.old) (held self.new) (take count piece.now)) }
         ensures kept { OnErr result (held self.new ≡ held self.old) }
 
         // A fault is counted, and nothing else is.
