@@ -1,0 +1,4 @@
+pub mod Commits
+pub mod Opening
+pub mod Order
+pub mod Puts

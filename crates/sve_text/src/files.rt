@@ -1,0 +1,81 @@
+ghost use Rattle.std.specs.Prelude.{◌≡◌, IfOk, IfSome};
+ghost use Rattle.sve_text.specs.Rows.{text_of, stamp_of, IsInLimit};
+ghost use Rattle.sve_text.specs.Files.{opening_files, HaveDistinctNames, TextsFit};
+
+use crate::piece::Piece;
+use crate::row::StoredRow;
+use crate::tree::Tree;
+use std::alloc::Global;
+use std::marker::Model;
+use std::sync::Arc;
+use sve_bytes::{List, Name, NoMemory};
+
+/// The files of one revision: for each name a text of at most 1,048,576 bytes or none, and the
+/// revision whose commit last touched it. Revisions share what they have in common.
+#[derive(Drop)]
+pub struct Files {
+    pub(crate) tree: Tree,
+    pub(crate) names_stamp: u64,
+}
+
+impl Model for Files {
+    ghost use Rattle.sve_text.specs.Files.{FilesValue};
+    ghost use Rattle.sve_text.specs.Rows.{IsInOrder, RowsFit};
+    ghost use Rattle.sve_text.specs.Tree.{rows_in};
+
+    ghost Value = { FilesValue };
+
+    ghost view = { λ f. record { rows = rows_in f.tree; names_stamp = f.names_stamp } };
+
+    ghost invariant = { λ f. IsInOrder (rows_in f.tree) × RowsFit (rows_in f.tree) };
+}
+
+impl Files {
+    /// The opening files, each with stamp 0, on condition that no two have one name and no text is
+    /// above 1,048,576 bytes. The texts are moved, not copied.
+    ///
+    /// # Errors
+    /// Only for want of memory.
+    pub fn of(alloc: Global, files: Vec<(Name, List<u8>)>) -> Result<Files, NoMemory>
+        requires distinct_names { HaveDistinctNames files.items }
+        requires texts_in_limit { TextsFit files.items }
+        ensures files { IfOk result (λ f. f ≡ opening_files files.items) }
+    {
+        let mut tree = Tree::Leaf;
+        'files: for (name, text) in files {
+            let row = StoredRow {
+                name,
+                text: Some(Arc::new(alloc, text)?),
+                stamp: 0,
+            };
+            tree = tree.put(alloc, row)?;
+        }
+        Ok(Files {
+            tree,
+            names_stamp: 0,
+        })
+    }
+
+    /// The text of a file, or `None` where no file of that name is there. It takes no memory.
+    #[tactic(auto, using(crate::proofs::Puts::text_of_in_limit))]
+    pub fn text(&self, name: &Name) -> Option<Piece<'_>>
+        ensures text { result ≡ text_of self.now.rows name.now }
+        ensures in_limit { IfSome result IsInLimit }
+    {
+        let row = self.tree.find(name)?;
+        match &row.text {
+            Some(text) => Some(Piece::of(text.items())),
+            None => None,
+        }
+    }
+
+    /// The revision whose commit last touched the name, or 0 where none did. It takes no memory.
+    pub fn stamp(&self, name: &Name) -> u64
+        ensures { result ≡ stamp_of self.now.rows name.now }
+    {
+        match self.tree.find(name) {
+            Some(row) => row.stamp,
+            None => 0,
+        }
+    }
+}

@@ -1,0 +1,205 @@
+//! Rows in a height-balanced search tree, whose versions share what they have in common. Balance is a
+//! matter of speed alone, so no contract speaks of heights.
+ghost use Rattle.std.specs.Prelude.{◌≡◌, ◌∷◌, ◌++◌, [], IfOk, option_map};
+ghost use Rattle.sve_text.specs.Rows.{row_of, is_there, put_row, IsInOrder};
+ghost use Rattle.sve_text.specs.Tree.{rows_in};
+
+use crate::row::StoredRow;
+use std::alloc::Global;
+use std::cmp::Ordering;
+use std::sync::Arc;
+use sve_bytes::{Name, NoMemory};
+
+/// Rows in byte order of their names.
+#[cycle(tree)]
+#[derive(Drop)]
+pub(crate) enum Tree {
+    Leaf,
+    Fork(Arc<Branch>),
+}
+
+/// A row between those that come before it and those that come after it. The height is the number of
+/// rows on the longest way down, this one included.
+#[cycle(tree)]
+#[derive(Drop)]
+pub(crate) struct Branch {
+    left: Tree,
+    row: StoredRow,
+    right: Tree,
+    height: u8,
+}
+
+impl Tree {
+    /// The same tree, which shares all its branches.
+    pub(crate) fn share(&self) -> Result<Tree, NoMemory>
+        ensures { IfOk result (λ t. rows_in t ≡ rows_in self.now) }
+    {
+        match self {
+            Tree::Leaf => Ok(Tree::Leaf),
+            Tree::Fork(branch) => Ok(Tree::Fork(Arc::try_clone(branch)?)),
+        }
+    }
+
+    /// The number of rows on the longest way down, 0 to 255.
+    fn height(&self) -> u8 {
+        match self {
+            Tree::Leaf => 0,
+            Tree::Fork(branch) => branch.height,
+        }
+    }
+
+    /// The number of rows on the longest way down.
+    #[cfg(test)]
+    pub(crate) fn depth(&self) -> u64 {
+        match self {
+            Tree::Leaf => 0,
+            Tree::Fork(branch) => {
+                let branch: &Branch = branch;
+                branch
+                    .left
+                    .depth()
+                    .max(branch.right.depth())
+                    .saturating_add(1)
+            }
+        }
+    }
+
+    /// The row of a name, where the name was touched.
+    #[tactic(auto, using(crate::proofs::Order::at_fork))]
+    pub(crate) fn find(&self, name: &Name) -> Option<&StoredRow>
+        requires { IsInOrder (rows_in self.now) }
+        ensures { option_map (λ row. row.now) result ≡ row_of (rows_in self.now) name.now }
+    {
+        match self {
+            Tree::Leaf => None,
+            Tree::Fork(branch) => {
+                let branch: &Branch = branch;
+                match name.cmp(&branch.row.name) {
+                    Ordering::Less => branch.left.find(name),
+                    Ordering::Equal => Some(&branch.row),
+                    Ordering::Greater => branch.right.find(name),
+                }
+            }
+        }
+    }
+
+    /// Whether a file of this name is there.
+    pub(crate) fn is_there(&self, name: &Name) -> bool
+        requires { IsInOrder (rows_in self.now) }
+        ensures { result ≡ is_there (rows_in self.now) name.now }
+    {
+        match self.find(name) {
+            Some(row) => row.text.is_some(),
+            None => false,
+        }
+    }
+
+    /// The tree with this row at its name, and all other rows as they are. What the row does not
+    /// change is shared with this tree.
+    #[tactic(auto, using(crate::proofs::Order::at_fork))]
+    pub(crate) fn put(&self, alloc: Global, row: StoredRow) -> Result<Tree, NoMemory>
+        requires { IsInOrder (rows_in self.now) }
+        ensures { IfOk result (λ t. rows_in t ≡ put_row row (rows_in self.now)) }
+    {
+        match self {
+            Tree::Leaf => fork(alloc, Tree::Leaf, row, Tree::Leaf),
+            Tree::Fork(branch) => {
+                let branch: &Branch = branch;
+                match row.name.cmp(&branch.row.name) {
+                    Ordering::Less => {
+                        let left = branch.left.put(alloc, row)?;
+                        balance(alloc, left, branch.row.share()?, branch.right.share()?)
+                    }
+                    Ordering::Equal => fork(
+                        alloc,
+                        branch.left.share()?,
+                        row,
+                        branch.right.share()?,
+                    ),
+                    Ordering::Greater => {
+                        let right = branch.right.put(alloc, row)?;
+                        balance(alloc, branch.left.share()?, branch.row.share()?, right)
+                    }
+                }
+            }
+        }
+    }
+}
+
+/// A tree with this row above these sides.
+fn fork(alloc: Global, left: Tree, row: StoredRow, right: Tree) -> Result<Tree, NoMemory>
+    ensures { IfOk result (λ t. rows_in t ≡ rows_in left ++ row ∷ rows_in right) }
+{
+    let height = left.height().max(right.height()).saturating_add(1);
+    let branch = Branch {
+        left,
+        row,
+        right,
+        height,
+    };
+    Ok(Tree::Fork(Arc::new(alloc, branch)?))
+}
+
+/// A fork whose sides differ in height by at most one, where these differ by at most two.
+fn balance(alloc: Global, left: Tree, row: StoredRow, right: Tree) -> Result<Tree, NoMemory>
+    ensures { IfOk result (λ t. rows_in t ≡ rows_in left ++ row ∷ rows_in right) }
+{
+    let (left_height, right_height) = (left.height(), right.height());
+    if left_height > right_height.saturating_add(1) {
+        rotate_right(alloc, left, row, right)
+    } else if right_height > left_height.saturating_add(1) {
+        rotate_left(alloc, left, row, right)
+    } else {
+        fork(alloc, left, row, right)
+    }
+}
+
+/// The same rows with the top of the left side above them, or what is between that and the row.
+fn rotate_right(alloc: Global, left: Tree, row: StoredRow, right: Tree) -> Result<Tree, NoMemory>
+    ensures { IfOk result (λ t. rows_in t ≡ rows_in left ++ row ∷ rows_in right) }
+{
+    let Tree::Fork(top) = &left else {
+        return fork(alloc, left, row, right);
+    };
+    let top: &Branch = top;
+    if let Tree::Fork(middle) = &top.right
+        && top.left.height() < top.right.height()
+    {
+        let middle: &Branch = middle;
+        let low = fork(
+            alloc,
+            top.left.share()?,
+            top.row.share()?,
+            middle.left.share()?,
+        )?;
+        let high = fork(alloc, middle.right.share()?, row, right)?;
+        return fork(alloc, low, middle.row.share()?, high);
+    }
+    let high = fork(alloc, top.right.share()?, row, right)?;
+    fork(alloc, top.left.share()?, top.row.share()?, high)
+}
+
+/// The same rows with the top of the right side above them, or what is between the row and that.
+fn rotate_left(alloc: Global, left: Tree, row: StoredRow, right: Tree) -> Result<Tree, NoMemory>
+    ensures { IfOk result (λ t. rows_in t ≡ rows_in left ++ row ∷ rows_in right) }
+{
+    let Tree::Fork(top) = &right else {
+        return fork(alloc, left, row, right);
+    };
+    let top: &Branch = top;
+    if let Tree::Fork(middle) = &top.left
+        && top.right.height() < top.left.height()
+    {
+        let middle: &Branch = middle;
+        let low = fork(alloc, left, row, middle.left.share()?)?;
+        let high = fork(
+            alloc,
+            middle.right.share()?,
+            top.row.share()?,
+            top.right.share()?,
+        )?;
+        return fork(alloc, low, middle.row.share()?, high);
+    }
+    let low = fork(alloc, left, row, top.left.share()?)?;
+    fork(alloc, low, top.row.share()?, top.right.share()?)
+}
