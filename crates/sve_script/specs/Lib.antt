@@ -1,0 +1,4 @@
+pub mod Shapes
+pub mod Session
+pub mod OneReading
+pub mod Fits

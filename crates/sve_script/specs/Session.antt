@@ -1,0 +1,100 @@
+-- The session that bytes are, over the value that they have as JSON (own).
+use Rattle.std.specs.Prelude.{ℕ, ◌≡◌, ◌&&◌, ◌==◌, Bool, true, false, List, [], ◌∷◌, Option, Some, None, length, sum_by, nat_le, option_and_then, if◌then◌else◌, IsUtf8, codes, bytes_eq}
+use Rattle.serde_json.specs.Data.{Data, Items, no_items, item, Members}
+use Rattle.serde_json.specs.Find.{as_str, as_array, as_object}
+use Rattle.serde_json.specs.Read.{read}
+use Rattle.sve_bytes.specs.FileName.{is_file_name_of}
+use Rattle.sve_text.specs.declared.edit.Edit.{Edit}
+use Rattle.sve_text.specs.declared.edit.Edit.TheVariants.{Put}
+use Rattle.sve_text.specs.declared.edit.Mode.TheVariants.{Latest}
+use Rattle.sve_text.specs.declared.edit.TheConstants.{MAX_FILE_LEN}
+use Rattle.sve_text.specs.Files.{opening_files}
+use Rattle.sve_script.specs.Shapes.{has_exactly, member_as, each_as}
+use Rattle.sve_script.specs.declared.commands.Script.{Script}
+use Rattle.sve_script.specs.declared.commands.Command.{Command}
+use Rattle.sve_script.specs.declared.commands.Command.TheVariants.{Commit, Ask}
+use Rattle.sve_script.specs.declared.commands.Query.TheVariants.{File}
+use Rattle.sve_script.specs.declared.commands.TheConstants.{MAX_COMMANDS, MAX_EDITS, MAX_FILES}
+
+-- the bytes are JSON with this value, by the reading of `serde_json`
+abbrev pub IsJson : List ℕ → Data → Type 0
+IsJson bytes value = IsUtf8 bytes × (read bytes ≡ Some value)
+
+-- `{"put": name, "text": text}`
+abbrev pub put_of : List ℕ → List ℕ → Option Edit
+put_of name text = if is_file_name_of name && nat_le (length text) MAX_FILE_LEN then Some (Put name text) else None
+
+abbrev pub edit_with : Members → Option Edit
+edit_with members =
+    if has_exactly (codes "put" ∷ codes "text" ∷ []) members
+    then option_and_then (λ name. option_and_then (put_of name) (member_as as_str (codes "text") members)) (member_as as_str (codes "put") members)
+    else None
+
+abbrev pub edit_of : Data → Option Edit
+edit_of value = option_and_then edit_with (as_object value)
+
+-- `{"commit": [edit, ..]}`
+abbrev pub commit_of : List Edit → Option Command
+commit_of edits = if nat_le (length edits) MAX_EDITS then Some (Commit edits) else None
+
+abbrev pub commit_with : Members → Option Command
+commit_with members = option_and_then commit_of (option_and_then (each_as edit_of) (member_as as_array (codes "commit") members))
+
+-- `{"ask": "file", "name": name}`
+abbrev pub ask_of : List ℕ → List ℕ → Option Command
+ask_of ask name = if bytes_eq ask (codes "file") then Some (Ask (File name) Latest None) else None
+
+abbrev pub ask_with : Members → Option Command
+ask_with members =
+    if has_exactly (codes "ask" ∷ codes "name" ∷ []) members
+    then option_and_then (λ ask. option_and_then (ask_of ask) (member_as as_str (codes "name") members)) (member_as as_str (codes "ask") members)
+    else None
+
+abbrev pub command_with : Members → Option Command
+command_with members = if has_exactly (codes "commit" ∷ []) members then commit_with members else ask_with members
+
+abbrev pub command_of : Data → Option Command
+command_of value = option_and_then command_with (as_object value)
+
+-- the commands of one client
+abbrev pub client_of : Data → Option (List Command)
+client_of value = option_and_then (each_as command_of) (as_array value)
+
+-- how many edits a command has
+abbrev pub edit_count : Command → ℕ
+edit_count (Commit edits) = length edits
+edit_count (Ask query mode budget) = 0
+
+-- one client, and no more commands and edits than a session may have
+abbrev pub is_in_limits : List (List Command) → Bool
+is_in_limits clients = length clients == 1 && nat_le (sum_by length clients) MAX_COMMANDS && nat_le (sum_by (sum_by edit_count) clients) MAX_FILES
+
+-- no file stands before the first commit
+abbrev pub script_with_clients : List (List Command) → Option Script
+script_with_clients clients = if is_in_limits clients then Some (record { files = opening_files []; clients = clients }) else None
+
+abbrev pub no_files : Items → Bool
+no_files no_items = true
+no_files (item file rest) = false
+
+-- `{"files": [], "clients": [[command, ..]]}`
+abbrev pub script_with : Members → Option Script
+script_with members =
+    if has_exactly (codes "files" ∷ codes "clients" ∷ []) members
+    then option_and_then (λ files. if no_files files then option_and_then script_with_clients (option_and_then (each_as client_of) (member_as as_array (codes "clients") members)) else None) (member_as as_array (codes "files") members)
+    else None
+
+abbrev pub script_of : Data → Option Script
+script_of value = option_and_then script_with (as_object value)
+
+-- the bytes are JSON, and their value is this session
+abbrev pub IsSession : List ℕ → Script → Type 0
+IsSession bytes script = (value : Data) × IsJson bytes value × (script_of value ≡ Some script)
+
+-- the bytes are JSON, and their value is no session of this form
+abbrev pub IsLater : List ℕ → Type 0
+IsLater bytes = (value : Data) × IsJson bytes value × (script_of value ≡ None)
+
+-- the bytes are no JSON
+abbrev pub IsNotJson : List ℕ → Type 0
+IsNotJson bytes = (value : Data) → IsJson bytes value → ⊥
