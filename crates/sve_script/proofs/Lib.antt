@@ -1,0 +1,5 @@
+pub mod EachItem
+pub mod ManyMembers
+pub mod Readings
+pub mod ShortNames
+pub mod Fitting

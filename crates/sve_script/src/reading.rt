@@ -1,0 +1,257 @@
+//! Reading a session: one function for each part of its form, over the value that the bytes have as JSON.
+ghost use Rattle.std.specs.Prelude.{◌≡◌, Some, None, if◌then◌else◌, IfOk, IsErrOf, length, nat_le, sum_by};
+ghost use Rattle.serde_json.specs.View.{view, items_view, members_view};
+ghost use Rattle.sve_bytes.specs.FileName.{is_file_name_of};
+ghost use Rattle.sve_script.specs.Shapes.{each_as};
+ghost use Rattle.sve_script.specs.Fits.{ClientsFit};
+ghost use Rattle.sve_script.specs.Session.{IsSession, IsLater, IsNotJson, put_of, edit_with, edit_of, commit_with, ask_with, command_with, command_of, client_of, edit_count, is_in_limits, no_files, script_with, script_of};
+
+use crate::commands::{BadSession, Command, MAX_COMMANDS, MAX_EDITS, MAX_FILES, Query, Script};
+use crate::member::{Object, has_both, has_only, items_under, text_under};
+use serde_json::Value;
+use std::alloc::{AllocError, Global};
+use sve_bytes::{BadName, List, Name, is_file_name};
+use sve_text::{Edit, Files, MAX_FILE_LEN, Mode};
+
+/// What a part of a session is taken for: `None` where it is not of the form, and an error only for want of memory.
+type Taken<T> = Result<Option<T>, AllocError>;
+
+/// The name of a file, where the bytes are one: 1 to 255 of them.
+fn file_name(alloc: Global, bytes: &[u8]) -> Taken<Name>
+    ensures { IfOk result (λ o. o ≡ (if is_file_name_of bytes.now then Some bytes.now else None)) }
+{
+    if !is_file_name(bytes) {
+        return Ok(None);
+    }
+    match Name::of(alloc, bytes) {
+        Ok(name) => Ok(Some(name)),
+        Err(BadName::NoMemory) => Err(AllocError),
+        Err(BadName::Empty) => unreachable!(),
+        Err(BadName::TooLong(_)) => unreachable!(),
+    }
+}
+
+/// The edit `{"put": name, "text": text}`. The text is copied once, from the string to the edit.
+fn put(alloc: Global, name: &str, text: &str) -> Taken<Edit>
+    ensures { IfOk result (λ o. o ≡ put_of name.now text.now) }
+{
+    if text.len() > MAX_FILE_LEN {
+        return Ok(None);
+    }
+    let Some(name) = file_name(alloc, name.as_bytes())? else {
+        return Ok(None);
+    };
+    let text = List::of(Vec::from_slice(alloc, text.as_bytes())?);
+    Ok(Some(Edit::Put { name, text }))
+}
+
+/// One edit of a commit.
+fn edit(alloc: Global, value: &Value) -> Taken<Edit>
+    ensures { IfOk result (λ o. o ≡ edit_of (view value.now)) }
+{
+    let Some(members) = value.as_object() else {
+        return Ok(None);
+    };
+    if !has_both(members, "put", "text") {
+        return Ok(None);
+    }
+    match (text_under(members, "put"), text_under(members, "text")) {
+        (Some(name), Some(text)) => put(alloc, name, text),
+        _ => Ok(None),
+    }
+}
+
+/// Edits, in their order.
+fn edits(alloc: Global, items: &[Value]) -> Taken<List<Edit>>
+    ensures { IfOk result (λ o. o ≡ each_as edit_of (items_view items.now)) }
+{
+    let mut edits = Vec::new(alloc);
+    for item in items {
+        match edit(alloc, item)? {
+            Some(edit) => edits.push(edit)?,
+            None => return Ok(None),
+        }
+    }
+    Ok(Some(List::of(edits)))
+}
+
+/// The command `{"commit": [edit, ..]}`, of members that are this one alone.
+fn commit(alloc: Global, members: &Object) -> Taken<Command>
+    ensures { IfOk result (λ o. o ≡ commit_with (members_view members.now.entries)) }
+{
+    let Some(items) = items_under(members, "commit") else {
+        return Ok(None);
+    };
+    match edits(alloc, items)? {
+        Some(edits) if edits.items().len() <= MAX_EDITS => Ok(Some(Command::Commit(edits))),
+        _ => Ok(None),
+    }
+}
+
+/// The command `{"ask": "file", "name": name}`. Any string may be the name, also one that no file can have.
+fn ask(alloc: Global, members: &Object) -> Taken<Command>
+    ensures { IfOk result (λ o. o ≡ ask_with (members_view members.now.entries)) }
+{
+    if !has_both(members, "ask", "name") {
+        return Ok(None);
+    }
+    match (text_under(members, "ask"), text_under(members, "name")) {
+        (Some("file"), Some(name)) => Ok(Some(Command::Ask {
+            query: Query::File {
+                name: List::of(Vec::from_slice(alloc, name.as_bytes())?),
+            },
+            mode: Mode::Latest,
+            budget: None,
+        })),
+        _ => Ok(None),
+    }
+}
+
+/// One command of a client.
+fn command(alloc: Global, value: &Value) -> Taken<Command>
+    ensures { IfOk result (λ o. o ≡ command_of (view value.now)) }
+{
+    match value.as_object() {
+        Some(members) if has_only(members, "commit") => commit(alloc, members),
+        Some(members) => ask(alloc, members),
+        None => Ok(None),
+    }
+}
+
+/// Commands, in their order.
+fn commands(alloc: Global, items: &[Value]) -> Taken<List<Command>>
+    ensures { IfOk result (λ o. o ≡ each_as command_of (items_view items.now)) }
+{
+    let mut commands = Vec::new(alloc);
+    for item in items {
+        match command(alloc, item)? {
+            Some(command) => commands.push(command)?,
+            None => return Ok(None),
+        }
+    }
+    Ok(Some(List::of(commands)))
+}
+
+/// The commands of one client.
+fn client(alloc: Global, value: &Value) -> Taken<List<Command>>
+    ensures { IfOk result (λ o. o ≡ client_of (view value.now)) }
+{
+    match value.as_array() {
+        Some(items) => commands(alloc, items),
+        None => Ok(None),
+    }
+}
+
+/// The commands of each client, client 1 first.
+fn clients(alloc: Global, items: &[Value]) -> Taken<List<List<Command>>>
+    ensures { IfOk result (λ o. o ≡ each_as client_of (items_view items.now)) }
+{
+    let mut clients = Vec::new(alloc);
+    for item in items {
+        match client(alloc, item)? {
+            Some(client) => clients.push(client)?,
+            None => return Ok(None),
+        }
+    }
+    Ok(Some(List::of(clients)))
+}
+
+/// How many edits a command has.
+fn count_edits(command: &Command) -> usize
+    ensures { result ≡ edit_count command.now }
+{
+    match command {
+        Command::Commit(edits) => edits.items().len(),
+        Command::Ask { .. } => 0,
+    }
+}
+
+/// Whether the commands have together no more edits than a session may have files.
+fn has_few_edits(commands: &[Command]) -> bool
+    ensures { result ≡ nat_le (sum_by edit_count commands.now) MAX_FILES }
+{
+    let mut left = MAX_FILES;
+    for command in commands {
+        let count = count_edits(command);
+        if count > left {
+            return false;
+        }
+        left -= count;
+    }
+    true
+}
+
+/// Whether there is one client, with no more commands and edits than a session may have.
+fn are_in_limits(clients: &[List<Command>]) -> bool
+    ensures { result ≡ is_in_limits clients.now }
+{
+    match clients {
+        [client] => client.items().len() <= MAX_COMMANDS && has_few_edits(client.items()),
+        _ => false,
+    }
+}
+
+/// Whether there is no file before the first commit.
+fn is_without_files(files: &[Value]) -> bool
+    ensures { result ≡ no_files (items_view files.now) }
+{
+    files.is_empty()
+}
+
+/// The session with these members.
+fn session_with(alloc: Global, members: &Object) -> Taken<Script>
+    ensures { IfOk result (λ o. o ≡ script_with (members_view members.now.entries)) }
+{
+    if !has_both(members, "files", "clients") {
+        return Ok(None);
+    }
+    let (Some(files), Some(items)) = (
+        items_under(members, "files"),
+        items_under(members, "clients"),
+    ) else {
+        return Ok(None);
+    };
+    if !is_without_files(files) {
+        return Ok(None);
+    }
+    match clients(alloc, items)? {
+        Some(clients) if are_in_limits(clients.items()) => Ok(Some(Script {
+            files: Files::of(alloc, Vec::new(alloc))?,
+            clients,
+        })),
+        _ => Ok(None),
+    }
+}
+
+/// The session that a value is.
+fn session(alloc: Global, value: &Value) -> Taken<Script>
+    ensures { IfOk result (λ o. o ≡ script_of (view value.now)) }
+{
+    match value.as_object() {
+        Some(members) => session_with(alloc, members),
+        None => Ok(None),
+    }
+}
+
+/// Reads a session.
+///
+/// # Errors
+/// `NotJson` where the bytes are no JSON, `Later` where they are JSON and no session of the form that is read.
+pub fn script(alloc: Global, bytes: &[u8]) -> Result<Script, BadSession>
+    ensures session { IfOk result (IsSession bytes.now) }
+    ensures one_client { IfOk result (λ s. length s.clients ≡ 1) }
+    ensures texts_fit { IfOk result (λ s. ClientsFit s.clients) }
+    ensures later { IsErrOf result BadSession.Later → IsLater bytes.now }
+    ensures not_json { IsErrOf result BadSession.NotJson → IsNotJson bytes.now }
+{
+    let value = match Value::from_slice(alloc, bytes) {
+        Ok(value) => value,
+        Err(error) if error.is_memory() => return Err(BadSession::NoMemory),
+        Err(_) => return Err(BadSession::NotJson),
+    };
+    match session(alloc, &value) {
+        Ok(Some(script)) => Ok(script),
+        Ok(None) => Err(BadSession::Later),
+        Err(AllocError) => Err(BadSession::NoMemory),
+    }
+}
