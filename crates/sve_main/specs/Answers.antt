@@ -1,0 +1,43 @@
+-- What a query is answered, as a function of the files of one revision (own).
+use Rattle.std.specs.Prelude.{ℕ, List, [], ◌∷◌, ◌++◌, Option, Some, None, length, map, nat_lt, if◌then◌else◌, codes, decimal}
+use Rattle.sve_bytes.specs.FileName.{is_file_name_of}
+use Rattle.sve_text.specs.Rows.{Row, text_of, stamp_of}
+use Rattle.sve_text.specs.Files.{FilesValue}
+use Rattle.sve_script.specs.declared.commands.Query.{Query}
+use Rattle.sve_script.specs.declared.commands.Query.TheVariants.{File}
+use Rattle.sve_main.specs.Lines.{cut_at_line_feeds}
+
+-- a query has its lines, or its cost is above the budget
+pub data Outcome : Type 0 where
+  Done : List (List ℕ) → Outcome
+  Spent : Outcome
+
+-- the cost of a query at these files, in steps of elaboration
+abbrev pub cost_of : FilesValue → Query → ℕ
+cost_of files (File name) = 0
+
+-- the line for a thing that is not there
+abbrev pub none : List (List ℕ)
+none = codes "none" ∷ []
+
+-- `stamp <s> bytes <n>`
+abbrev pub text_head : ℕ → ℕ → List ℕ
+text_head stamp size = codes "stamp " ++ decimal stamp ++ codes " bytes " ++ decimal size
+
+-- each line of a text after a bar
+abbrev pub barred : List ℕ → List (List ℕ)
+barred text = map (λ line. 124 ∷ line) (cut_at_line_feeds text)
+
+abbrev pub text_lines : ℕ → Option (List ℕ) → List (List ℕ)
+text_lines stamp None = none
+text_lines stamp (Some text) = text_head stamp (length text) ∷ barred text
+
+-- the text of the file of this name; a name that no file may have is not there
+abbrev pub file_lines : List Row → List ℕ → List (List ℕ)
+file_lines rows name = if is_file_name_of name then text_lines (stamp_of rows name) (text_of rows name) else none
+
+abbrev pub lines_of : FilesValue → Query → List (List ℕ)
+lines_of files (File name) = file_lines files.rows name
+
+abbrev pub answer : FilesValue → Query → ℕ → Outcome
+answer files query budget = if nat_lt budget (cost_of files query) then Spent else Done (lines_of files query)

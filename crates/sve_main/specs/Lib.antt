@@ -1,0 +1,12 @@
+pub mod Answers
+pub mod Cutting
+pub mod Endings
+pub mod Histories
+pub mod Honest
+pub mod Lines
+pub mod ReadBack
+pub mod Reports
+pub mod Revisions
+pub mod Runs
+pub mod Serial
+pub mod Words
