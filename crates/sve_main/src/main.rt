@@ -1,0 +1,45 @@
+//! `svserve`: runs a recorded session and reports its history and every answer.
+#![tactic(auto)]
+
+mod answering;
+mod cutting;
+mod entry;
+mod history;
+mod record;
+mod reporting;
+mod running;
+mod serving;
+mod status;
+mod transfer;
+mod words;
+
+use serving::serve;
+use status::Status;
+use std::alloc::AllocError;
+use std::process::ExitCode;
+use std::{env, io};
+use sve_io::{RealIn, RealOut};
+
+/// The words behind the program's name. Where one is no UTF-8 there are none, which asks for nothing.
+fn spoken_words(rt: &HostRuntime) -> Result<Vec<String>, AllocError> {
+    match env::args(rt) {
+        Ok(args) => args.skip(1).collect(rt.alloc()),
+        Err(error) if error.kind() == io::ErrorKind::InvalidData => Ok(Vec::new(rt.alloc())),
+        Err(_) => Err(AllocError),
+    }
+}
+
+fn main(rt: HostRuntime) -> ExitCode {
+    let status = match spoken_words(&rt) {
+        Ok(words) => {
+            let mut source = RealIn::new(rt.stdin());
+            let mut sink = RealOut::new(rt.stdout());
+            serve(&rt, rt.alloc(), &words, &mut source, &mut sink)
+        }
+        Err(AllocError) => Status::NoMemory,
+    };
+    ExitCode::from(status as u8)
+}
+
+#[cfg(test)]
+mod tests;
