@@ -1,0 +1,5 @@
+pub mod Words
+pub mod Views
+pub mod Places
+pub mod Gates
+pub mod Formulas
