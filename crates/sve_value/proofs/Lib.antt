@@ -3,3 +3,8 @@ pub mod Views
 pub mod Places
 pub mod Gates
 pub mod Formulas
+pub mod Windows
+pub mod Folds
+pub mod Integers
+pub mod Logs
+pub mod Powers

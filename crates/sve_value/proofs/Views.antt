@@ -1,5 +1,5 @@
 -- From the words of a value to what contracts see of it.
-use Rattle.std.proofs.Common.{◌≡◌, ℕ, ◌<◌, ◌≤◌, ◌^◌, Bool, Some, None, List, ◌∷◌, take, length, refl, ap, ◌∙◌, sym, arith}
+use Rattle.std.proofs.Common.{◌≡◌, ℕ, ◌+◌, ◌*◌, ◌%◌, bit_or, false, ◌<◌, ◌≤◌, ◌^◌, Bool, Some, None, List, ◌∷◌, take, length, refl, ap, ◌∙◌, sym, arith}
 use Rattle.sve_value.specs.declared.bits.Bits.TheInside.{Inside}
 use Rattle.sve_value.specs.contracts.bits.Bits.{the_view, the_invariant}
 use Rattle.sve_value.specs.Vector.{Vector}
@@ -7,7 +7,8 @@ use Rattle.sve_value.specs.Planes.{planes, vector}
 use Rattle.sve_value.specs.Back.{length-planes}
 use Rattle.sve_value.specs.declared.bit.Bit.{Bit}
 use Rattle.sve_value.specs.Numbers.{known_natural}
-use Rattle.sve_value.specs.Moves.{shift_in_of}
+use Rattle.sve_value.specs.Moves.{shift_in_of, concat_of}
+use Rattle.sve_value.proofs.Windows.{joined_word, planes-append}
 use Rattle.sve_value.proofs.Words.{known-planes, unknown-planes, natural-planes}
 
 pub width_of : (a : Inside) (v : Vector) → the_view a ≡ v → a.width ≡ length v.bits
@@ -23,3 +24,13 @@ pub shift_in_view : (a : Inside) (v : Vector) (b : Bit) (p q : ℕ) → the_view
 shift_in_view a v b p q e h =
     ap (λ bs. record { signed = a.signed; bits = bs }) (h ∙ ap (λ n. take n (b ∷ planes a.width a.ones a.unknowns)) (sym (length-planes a.width a.ones a.unknowns))) ∙
     ap (λ (x : Vector). shift_in_of x b) e
+
+pub concat_view : (a b : Inside) (v w r : Vector) → the_view a ≡ v → the_view b ≡ w → length v.bits + length w.bits ≤ 128 → the_invariant a → the_invariant b →
+  r ≡ vector (a.width + b.width) false (bit_or (a.ones * 2 ^ b.width % 2 ^ 128) b.ones) (bit_or (a.unknowns * 2 ^ b.width % 2 ^ 128) b.unknowns) →
+  r ≡ concat_of v w
+concat_view a b v w r p q e i j is =
+    let h : a.width + b.width ≤ 128 = omega (arith, width_of a v p, width_of b w q) in
+    let turn : a.width + b.width ≡ b.width + a.width = omega arith in
+    is ∙ rw (joined_word a.width b.width a.ones b.ones i.2 j.2 h, joined_word a.width b.width a.unknowns b.unknowns i.3 j.3 h, turn)
+      (ap (λ bs. record { signed = false; bits = bs }) (planes-append b.width a.width b.ones b.unknowns a.ones a.unknowns j.2 j.3)) ∙
+    ap (λ (x : Vector). concat_of x (the_view b)) p ∙ ap (λ (x : Vector). concat_of v x) q

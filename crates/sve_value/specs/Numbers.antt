@@ -1,5 +1,5 @@
 -- The whole numbers that bits stand for (IEEE 1800-2017, 6.11.3 and 11.4.3), and the bits of a whole number.
-use Rattle.std.specs.Prelude.{ℕ, zero, suc, ◌+◌, ◌*◌, ◌/◌, ◌%◌, ◌^◌, Bool, true, false, ◌&&◌, ◌==◌, if◌then◌else◌, ℤ, pos, ◌-ℤ◌, unsigned_abs, List, [], ◌∷◌, length, replicate, Option, Some, None}
+use Rattle.std.specs.Prelude.{ℕ, zero, suc, ◌+◌, ◌*◌, ◌/◌, ◌%◌, ◌^◌, Bool, true, false, ◌&&◌, ◌==◌, if◌then◌else◌, ℤ, pos, neg_ℤ, ◌-ℤ◌, unsigned_abs, List, [], ◌∷◌, length, replicate, Option, Some, None}
 use Rattle.std.specs.Int.{int_rem_euclid}
 use Rattle.sve_value.specs.declared.bit.Bit.{Bit}
 use Rattle.sve_value.specs.declared.bit.Bit.TheVariants.{Zero, One, X, Z}
@@ -41,6 +41,11 @@ is_negative v = v.signed && is_one (leftmost v.bits)
 -- the whole number that known bits stand for, in two's complement where the value is signed
 abbrev pub integer : Vector → ℤ
 integer v = if is_negative v then pos (natural v.bits) -ℤ pos (2 ^ length v.bits) else pos (natural v.bits)
+
+-- the whole number of a sign and a size
+abbrev pub with_sign : Bool → ℕ → ℤ
+with_sign true size = neg_ℤ (pos size)
+with_sign false size = pos size
 
 -- those numbers, where no bit is x or z
 unfoldable pub are_known : List Bit → Bool

@@ -4,11 +4,20 @@
 //! such lists alone. The machine holds two words for it, so most operators take a few word operations.
 #![tactic(auto)]
 
+mod arithmetic;
 mod bit;
 mod bits;
 mod bitwise;
+mod logarithm;
+mod moves;
 mod operators;
+mod reductions;
+mod relations;
+mod whole;
 
 pub use bit::Bit;
 pub use bits::Bits;
+pub use logarithm::clog2;
+pub use moves::{choose, concat, select};
 pub use operators::{Binary, Unary};
+pub use reductions::truth;
