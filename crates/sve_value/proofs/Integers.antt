@@ -4,12 +4,13 @@ use Rattle.std.specs.Int.{int_rem_euclid, int_pow}
 use Rattle.std.specs.Bool.{beq}
 use Rattle.std.proofs.lemmas.Int.{ints, int_rem_euclid_is}
 use Rattle.std.proofs.lemmas.Nat.{pow_pos, pow-add}
-use Rattle.std.proofs.Math.Nat.{mod-mod, mul_assoc}
+use Rattle.std.proofs.Math.Nat.{mod-mod, mul_assoc, pow-suc}
 use Rattle.sve_value.specs.declared.bit.Bit.{Bit}
 use Rattle.sve_value.specs.declared.bit.Bit.TheVariants.{Zero, One, X, Z}
 use Rattle.sve_value.specs.Vector.{Vector}
+use Rattle.sve_value.specs.Back.{is_digit}
 use Rattle.sve_value.specs.Numbers.{is_one, are_known, digit, natural, leftmost, is_negative, integer, known_natural, known_integer, binary, low_bits, with_sign, value_of, number_of}
-use Rattle.sve_value.specs.Arithmetic.{sum, difference, product, on_both, arithmetic_of}
+use Rattle.sve_value.specs.Arithmetic.{sum, difference, product, power, arithmetic_of}
 use Rattle.sve_value.proofs.Words.{binary-same, binary-mod, natural-below}
 
 -- a whole number has the low bits of each number that lies a multiple of the modulus above it
@@ -156,3 +157,24 @@ pub product_is : (a b : Vector) (s t : Bool) (m n : ℕ) → length a.bits ≤ 1
   value_of (length a.bits) a.signed (Some (with_sign (not (beq s t)) ((m * n) % 2 ^ 128))) ≡ arithmetic_of product a b
 product_is a b s t m n h e f = rw (← e, ← f) (ap (λ (bs : List Bit). record { signed = a.signed; bits = bs })
     (low-cut (length a.bits) (m * n) (not (beq s t)) h ∙ ap (low_bits (length a.bits)) (sym (signed_product s t m n))))
+
+-- ---- powers
+
+one_power : (n : ℕ) → 1 ^ n ≡ 1
+one_power zero = refl
+one_power (suc n) = rw (pow-suc 1 n, one_power n) refl
+
+signed_power : (s : Bool) (m e : ℕ) → (s ≡ true → 0 < m) → int_pow (with_sign s m) e ≡ with_sign (s && (e % 2 == 1)) (m ^ e)
+signed_power false m e h = refl
+signed_power true zero e h = absurd (omega (arith, h refl))
+signed_power true (suc m) e h = elim (is_digit e) [ inl p ↦ rw (p) refl | inr p ↦ rw (p) refl ]
+
+pub power_up_is : (a b : Vector) (s t : Bool) (m e : ℕ) (z : ℤ) → length a.bits ≤ 128 → (s ≡ true → 0 < m) → t ≡ false → Some (with_sign s m) ≡ known_integer a → Some (with_sign t e) ≡ known_integer b →
+  z ≡ with_sign (s && (e % 2 == 1)) (m ^ e % 2 ^ 128) → value_of (length a.bits) a.signed (Some z) ≡ arithmetic_of power a b
+power_up_is a b s t m e z h g t_is p q is = rw (← p, ← q, is, t_is) (ap (λ (bs : List Bit). record { signed = a.signed; bits = bs })
+    (low-cut (length a.bits) (m ^ e) (s && (e % 2 == 1)) h ∙ ap (low_bits (length a.bits)) (sym (signed_power s m e g))))
+
+pub power_down_is : (s : Bool) (m e : ℕ) → m ≡ 1 → 0 < e → Some (with_sign (s && (e % 2 == 1)) 1) ≡ power (with_sign s m) (with_sign true e)
+power_down_is s m zero h g = absurd (omega arith)
+power_down_is false m (suc e) h g = rw h refl
+power_down_is true m (suc e) h g = rw h (ap (λ z. Some z) (sym (signed_power true 1 (suc e) (λ _. omega arith) ∙ rw (one_power (suc e)) refl)))

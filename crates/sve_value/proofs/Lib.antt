@@ -8,3 +8,4 @@ pub mod Folds
 pub mod Integers
 pub mod Logs
 pub mod Powers
+pub mod Texts

@@ -8,16 +8,21 @@ mod arithmetic;
 mod bit;
 mod bits;
 mod bitwise;
+mod evaluate;
 mod logarithm;
 mod moves;
 mod operators;
+
 mod reductions;
 mod relations;
+mod text;
 mod whole;
 
 pub use bit::Bit;
 pub use bits::Bits;
 pub use logarithm::clog2;
 pub use moves::{choose, concat, select};
+pub use evaluate::{binary, unary};
 pub use operators::{Binary, Unary};
+pub use text::{NoMemory, print};
 pub use reductions::truth;
