@@ -32,14 +32,17 @@ any-one (suc width) (suc k) o u l a b c h =
     let low = lowest k o u o u (same_fit (suc k) o u b c) known_ones in
     let high = rest k o u o u (same_fit (suc k) o u b c) known_ones in
     let below : 0 < word k (o / 2) (u / 2) (o / 2) (u / 2) known_ones → list_any is_one (planes width (o / 2) (u / 2)) ≡ true =
-      any-one width k (o / 2) (u / 2) (omega arith) (half_below width o a) (half_below k o b) (half_below k u c) in
+    any-one width k (o / 2) (u / 2) (omega arith) (half_below width o a) (half_below k o b) (half_below k u c) in
     elim (is_digit o) [
-      inl p ↦ elim (is_digit u) [
-        inl q ↦ (let e = rw p at low in rw (p, q, below (omega (arith, e, high))) refl)
-      | inr q ↦ (let e = rw p at low in rw (p, q, below (omega (arith, e, high))) refl) ]
-    | inr p ↦ elim (is_digit u) [
-        inl q ↦ rw (p, q) refl
-      | inr q ↦ (let e = rw (p, q) at low in rw (p, q, below (omega (arith, e, high))) refl) ] ]
+      | inl p ↦ elim (is_digit u) [
+        | inl q ↦ (let e = rw p at low in rw (p, q, below (omega (arith, e, high))) refl)
+        | inr q ↦ (let e = rw p at low in rw (p, q, below (omega (arith, e, high))) refl)
+      ]
+      | inr p ↦ elim (is_digit u) [
+        | inl q ↦ rw (p, q) refl
+        | inr q ↦ (let e = rw (p, q) at low in rw (p, q, below (omega (arith, e, high))) refl)
+      ]
+    ]
 
 pub any-none : (width k o u : ℕ) → width ≤ k → o < 2 ^ k → u < 2 ^ k → word k o u o u known_ones ≡ 0 → list_any is_one (planes width o u) ≡ false
 unfolding planes
@@ -49,12 +52,14 @@ any-none (suc width) (suc k) o u l b c h =
     let low = lowest k o u o u (same_fit (suc k) o u b c) known_ones in
     let high = rest k o u o u (same_fit (suc k) o u b c) known_ones in
     let below : list_any is_one (planes width (o / 2) (u / 2)) ≡ false =
-      any-none width k (o / 2) (u / 2) (omega arith) (half_below k o b) (half_below k u c) (omega (arith, high)) in
+    any-none width k (o / 2) (u / 2) (omega arith) (half_below k o b) (half_below k u c) (omega (arith, high)) in
     elim (is_digit o) [
-      inl p ↦ elim (is_digit u) [ inl q ↦ rw (p, q, below) refl | inr q ↦ rw (p, q, below) refl ]
-    | inr p ↦ elim (is_digit u) [
-        inl q ↦ (let e = rw (p, q) at low in absurd (omega (arith, e, h)))
-      | inr q ↦ rw (p, q, below) refl ] ]
+      | inl p ↦ elim (is_digit u) [ inl q ↦ rw (p, q, below) refl | inr q ↦ rw (p, q, below) refl ]
+      | inr p ↦ elim (is_digit u) [
+        | inl q ↦ (let e = rw (p, q) at low in absurd (omega (arith, e, h)))
+        | inr q ↦ rw (p, q, below) refl
+      ]
+    ]
 
 pub all-zero : (width : ℕ) → list_all is_zero (planes width 0 0) ≡ true
 unfolding planes
@@ -69,8 +74,9 @@ pub all-unknown : (width o u : ℕ) → u < 2 ^ width → 0 < u → list_all is_
 unfolding planes
 all-unknown zero o u h k = absurd (omega arith)
 all-unknown (suc width) o u h k = elim (is_digit u) [
-    inl q ↦ rw (all-unknown width (o / 2) (u / 2) (half_below width u h) (omega arith)) (and-false (is_zero (bit_of (o % 2) (u % 2))))
-  | inr q ↦ elim (is_digit o) [ inl p ↦ rw (p, q) refl | inr p ↦ rw (p, q) refl ] ]
+  | inl q ↦ rw (all-unknown width (o / 2) (u / 2) (half_below width u h) (omega arith)) (and-false (is_zero (bit_of (o % 2) (u % 2))))
+  | inr q ↦ elim (is_digit o) [ inl p ↦ rw (p, q) refl | inr p ↦ rw (p, q) refl ]
+]
 
 -- ---- truth as a test of the two kinds of bits
 
@@ -148,19 +154,24 @@ pub parity-unknown : (width o u : ℕ) → u < 2 ^ width → 0 < u → parity (p
 unfolding planes parity
 parity-unknown zero o u h k = absurd (omega arith)
 parity-unknown (suc width) o u h k = elim (is_digit u) [
-    inl q ↦ rw (parity-unknown width (o / 2) (u / 2) (half_below width u h) (omega arith)) (unknown_right (bit_of (o % 2) (u % 2)))
+  | inl q ↦ rw (parity-unknown width (o / 2) (u / 2) (half_below width u h) (omega arith)) (unknown_right (bit_of (o % 2) (u % 2)))
   | inr q ↦ elim (is_digit o) [
-      inl p ↦ rw (p, q) (unknown_left (parity (planes width (o / 2) (u / 2))))
-    | inr p ↦ rw (p, q) (floating_left (parity (planes width (o / 2) (u / 2)))) ] ]
+    | inl p ↦ rw (p, q) (unknown_left (parity (planes width (o / 2) (u / 2))))
+    | inr p ↦ rw (p, q) (floating_left (parity (planes width (o / 2) (u / 2))))
+  ]
+]
 
 odd_more : (d n : ℕ) → xor_bit (bit_of (d % 2) 0) (if n % 2 == 1 then One else Zero) ≡ (if (d % 2 + n) % 2 == 1 then One else Zero)
 odd_more d n = elim (is_digit d) [
-    inl p ↦ elim (is_digit n) [
-      inl q ↦ (let e : (0 + n) % 2 ≡ 0 = omega (arith, q) in rw (p, q, e) refl)
-    | inr q ↦ (let e : (0 + n) % 2 ≡ 1 = omega (arith, q) in rw (p, q, e) refl) ]
+  | inl p ↦ elim (is_digit n) [
+    | inl q ↦ (let e : (0 + n) % 2 ≡ 0 = omega (arith, q) in rw (p, q, e) refl)
+    | inr q ↦ (let e : (0 + n) % 2 ≡ 1 = omega (arith, q) in rw (p, q, e) refl)
+  ]
   | inr p ↦ elim (is_digit n) [
-      inl q ↦ (let e : (1 + n) % 2 ≡ 1 = omega (arith, q) in rw (p, q, e) refl)
-    | inr q ↦ (let e : (1 + n) % 2 ≡ 0 = omega (arith, q) in rw (p, q, e) refl) ] ]
+    | inl q ↦ (let e : (1 + n) % 2 ≡ 1 = omega (arith, q) in rw (p, q, e) refl)
+    | inr q ↦ (let e : (1 + n) % 2 ≡ 0 = omega (arith, q) in rw (p, q, e) refl)
+  ]
+]
 
 pub parity-known : (width o : ℕ) → o < 2 ^ width → parity (planes width o 0) ≡ (if count_ones o % 2 == 1 then One else Zero)
 unfolding planes parity

@@ -85,36 +85,47 @@ AtDigits P = P 0 0 × P 0 1 × P 1 0 × P 1 1
 
 at_digits : (P : ℕ → ℕ → Type 0) → AtDigits P → (o u : ℕ) → P (o % 2) (u % 2)
 at_digits P t o u = elim (is_digit o) [
-    inl p ↦ elim (is_digit u) [ inl q ↦ rw (p, q) t.0 | inr q ↦ rw (p, q) t.1 ]
-  | inr p ↦ elim (is_digit u) [ inl q ↦ rw (p, q) t.2 | inr q ↦ rw (p, q) t.3 ] ]
+  | inl p ↦ elim (is_digit u) [ inl q ↦ rw (p, q) t.0 | inr q ↦ rw (p, q) t.1 ]
+  | inr p ↦ elim (is_digit u) [ inl q ↦ rw (p, q) t.2 | inr q ↦ rw (p, q) t.3 ]
+]
 
 -- a truth table is two formulas
 abbrev pub IsTable : (Bit → Bit → Bit) → Gate → Gate → Type 0
 IsTable table g h = AtDigits (λ o u. AtDigits (λ p v. table (bit_of o u) (bit_of p v) ≡ bit_of (word 1 o u p v g) (word 1 o u p v h)))
 
 pub pairs-planes : (table : Bit → Bit → Bit) (g h : Gate) → IsTable table g h → (width k p q r s : ℕ) → width ≤ k → Fit k p q r s →
-  pairs table (planes width p q) (planes width r s) ≡ planes width (word k p q r s g) (word k p q r s h)
+    pairs table (planes width p q) (planes width r s) ≡ planes width (word k p q r s g) (word k p q r s h)
 unfolding planes pairs
 pairs-planes table g h t zero k p q r s l f = refl
 pairs-planes table g h t (suc width) zero p q r s l f = absurd (omega arith)
 pairs-planes table g h t (suc width) (suc k) p q r s l f =
-    rw (lowest k p q r s f g, lowest k p q r s f h, rest k p q r s f g, rest k p q r s f h,
-        pairs-planes table g h t width k (p / 2) (q / 2) (r / 2) (s / 2) (omega arith) (halved k p q r s f))
-       (ap (λ b. b ∷ planes width (word k (p / 2) (q / 2) (r / 2) (s / 2) g) (word k (p / 2) (q / 2) (r / 2) (s / 2) h))
-           (at_digits (λ p' v. table (bit_of (p % 2) (q % 2)) (bit_of p' v) ≡ bit_of (word 1 (p % 2) (q % 2) p' v g) (word 1 (p % 2) (q % 2) p' v h))
-             (at_digits (λ o u. AtDigits (λ p' v. table (bit_of o u) (bit_of p' v) ≡ bit_of (word 1 o u p' v g) (word 1 o u p' v h))) t p q) r s))
+    rw (
+      lowest k p q r s f g,
+      lowest k p q r s f h,
+      rest k p q r s f g,
+      rest k p q r s f h,
+      pairs-planes table g h t width k (p / 2) (q / 2) (r / 2) (s / 2) (omega arith) (halved k p q r s f),
+    )
+    (ap (λ b. b ∷ planes width (word k (p / 2) (q / 2) (r / 2) (s / 2) g) (word k (p / 2) (q / 2) (r / 2) (s / 2) h))
+    (at_digits (λ p' v. table (bit_of (p % 2) (q % 2)) (bit_of p' v) ≡ bit_of (word 1 (p % 2) (q % 2) p' v g) (word 1 (p % 2) (q % 2) p' v h))
+    (at_digits (λ o u. AtDigits (λ p' v. table (bit_of o u) (bit_of p' v) ≡ bit_of (word 1 o u p' v g) (word 1 o u p' v h))) t p q) r s))
 
 -- likewise of one operand
 abbrev pub IsColumn : (Bit → Bit) → Gate → Gate → Type 0
 IsColumn table g h = AtDigits (λ o u. table (bit_of o u) ≡ bit_of (word 1 o u o u g) (word 1 o u o u h))
 
 pub each-planes : (table : Bit → Bit) (g h : Gate) → IsColumn table g h → (width k p q : ℕ) → width ≤ k → Fit k p q p q →
-  each table (planes width p q) ≡ planes width (word k p q p q g) (word k p q p q h)
+    each table (planes width p q) ≡ planes width (word k p q p q g) (word k p q p q h)
 unfolding planes each
 each-planes table g h t zero k p q l f = refl
 each-planes table g h t (suc width) zero p q l f = absurd (omega arith)
 each-planes table g h t (suc width) (suc k) p q l f =
-    rw (lowest k p q p q f g, lowest k p q p q f h, rest k p q p q f g, rest k p q p q f h,
-        each-planes table g h t width k (p / 2) (q / 2) (omega arith) (halved k p q p q f))
-       (ap (λ b. b ∷ planes width (word k (p / 2) (q / 2) (p / 2) (q / 2) g) (word k (p / 2) (q / 2) (p / 2) (q / 2) h))
-           (at_digits (λ o u. table (bit_of o u) ≡ bit_of (word 1 o u o u g) (word 1 o u o u h)) t p q))
+    rw (
+      lowest k p q p q f g,
+      lowest k p q p q f h,
+      rest k p q p q f g,
+      rest k p q p q f h,
+      each-planes table g h t width k (p / 2) (q / 2) (omega arith) (halved k p q p q f),
+    )
+    (ap (λ b. b ∷ planes width (word k (p / 2) (q / 2) (p / 2) (q / 2) g) (word k (p / 2) (q / 2) (p / 2) (q / 2) h))
+    (at_digits (λ o u. table (bit_of o u) ≡ bit_of (word 1 o u o u g) (word 1 o u o u h)) t p q))

@@ -52,13 +52,13 @@ pub low-cut : (width n : ℕ) (s : Bool) → width ≤ 128 → low_bits width (w
 low-cut width n false h = sym (low-size width (n % 2 ^ 128) false refl) ∙ binary-mod width n h ∙ low-size width n false refl
 low-cut width n true h =
     let f : n / 2 ^ 128 * 2 ^ 128 ≡ n / 2 ^ 128 * 2 ^ (128 - width) * 2 ^ width =
-      ap (λ k. n / 2 ^ 128 * k) (wide width h) ∙ sym (mul_assoc (n / 2 ^ 128) (2 ^ (128 - width)) (2 ^ width)) in
+    ap (λ k. n / 2 ^ 128 * k) (wide width h) ∙ sym (mul_assoc (n / 2 ^ 128) (2 ^ (128 - width)) (2 ^ width)) in
     let e : n % 2 ^ 128 + n / 2 ^ 128 * 2 ^ (128 - width) * 2 ^ width ≡ n = omega (arith, f) in
     let l : n % 2 ^ 128 ≤ 2 ^ (128 - width) * 2 ^ width = omega (arith, wide width h) in
     let P : ℕ → Type 0 = λ m. neg_ℤ (pos m) +ℤ pos ((2 ^ (128 - width) + n / 2 ^ 128 * 2 ^ (128 - width)) * 2 ^ width) ≡ pos (2 ^ (128 - width) * 2 ^ width - n % 2 ^ 128) in
     low-neg width (2 ^ (128 - width)) (n % 2 ^ 128) l ∙
     sym (low-shift width (2 ^ (128 - width) + n / 2 ^ 128 * 2 ^ (128 - width)) (2 ^ (128 - width) * 2 ^ width - n % 2 ^ 128) (neg_ℤ (pos n))
-      (subst P e (multiple (2 ^ width) (n / 2 ^ 128 * 2 ^ (128 - width)) (n % 2 ^ 128) (2 ^ (128 - width)) l)))
+    (subst P e (multiple (2 ^ width) (n / 2 ^ 128 * 2 ^ (128 - width)) (n % 2 ^ 128) (2 ^ (128 - width)) l)))
 
 -- ---- what a value stands for
 
@@ -116,13 +116,13 @@ added : (x y : ℤ) (j k w m n : ℕ) → x +ℤ pos (j * w) ≡ pos m → y +�
 added x y j k w m n e f = omega (arith, ints)
 
 pub sum_is : (a b : Vector) (m n : ℕ) → length a.bits ≤ 128 → length a.bits ≡ length b.bits → Some m ≡ known_natural a → Some n ≡ known_natural b →
-  number_of (length a.bits) a.signed ((m + n) % 2 ^ 128) ≡ arithmetic_of sum a b
+    number_of (length a.bits) a.signed ((m + n) % 2 ^ 128) ≡ arithmetic_of sum a b
 sum_is a b m n h same e f =
     let p = stands a m e in let q = stands b n f in
     let y : integer b +ℤ pos (q.above * 2 ^ length a.bits) ≡ pos n = rw same q.is in
     rw (← p.known, ← q.known) (ap (λ (bs : List Bit). record { signed = a.signed; bits = bs })
-      (binary-mod (length a.bits) (m + n) h ∙
-       sym (low-shift (length a.bits) (p.above + q.above) (m + n) (integer a +ℤ integer b) (added _ _ p.above q.above (2 ^ length a.bits) m n p.is y))))
+    (binary-mod (length a.bits) (m + n) h ∙
+    sym (low-shift (length a.bits) (p.above + q.above) (m + n) (integer a +ℤ integer b) (added _ _ p.above q.above (2 ^ length a.bits) m n p.is y))))
 
 taken : (x y : ℤ) (j k q d w m n : ℕ) → d + k ≡ j + q → n ≤ q * w → x +ℤ pos (j * w) ≡ pos m → y +ℤ pos (k * w) ≡ pos n → (x -ℤ y) +ℤ pos (d * w) ≡ pos (m + (q * w - n))
 taken x y j k q d w m n a b e f =
@@ -130,15 +130,15 @@ taken x y j k q d w m n a b e f =
     omega (arith, ints, g)
 
 pub difference_is : (a b : Vector) (m n : ℕ) → length a.bits ≤ 128 → length a.bits ≡ length b.bits → n < 2 ^ 128 → Some m ≡ known_natural a → Some n ≡ known_natural b →
-  number_of (length a.bits) a.signed ((m + (2 ^ 128 - n)) % 2 ^ 128) ≡ arithmetic_of difference a b
+    number_of (length a.bits) a.signed ((m + (2 ^ 128 - n)) % 2 ^ 128) ≡ arithmetic_of difference a b
 difference_is a b m n h same l e f =
     let p = stands a m e in let q = stands b n f in
     let y : integer b +ℤ pos (q.above * 2 ^ length a.bits) ≡ pos n = rw same q.is in
     let big : 1 ≤ 2 ^ (128 - length a.bits) = pow_pos (128 - length a.bits) in
     rw (← p.known, ← q.known) (ap (λ (bs : List Bit). record { signed = a.signed; bits = bs })
-      (binary-mod (length a.bits) (m + (2 ^ 128 - n)) h ∙
-       rw (wide (length a.bits) h) (sym (low-shift (length a.bits) (p.above + 2 ^ (128 - length a.bits) - q.above) (m + (2 ^ (128 - length a.bits) * 2 ^ length a.bits - n)) (integer a -ℤ integer b)
-         (taken _ _ p.above q.above (2 ^ (128 - length a.bits)) (p.above + 2 ^ (128 - length a.bits) - q.above) (2 ^ length a.bits) m n (omega (arith, big, q.once)) (omega (arith, wide (length a.bits) h)) p.is y)))))
+    (binary-mod (length a.bits) (m + (2 ^ 128 - n)) h ∙
+    rw (wide (length a.bits) h) (sym (low-shift (length a.bits) (p.above + 2 ^ (128 - length a.bits) - q.above) (m + (2 ^ (128 - length a.bits) * 2 ^ length a.bits - n)) (integer a -ℤ integer b)
+    (taken _ _ p.above q.above (2 ^ (128 - length a.bits)) (p.above + 2 ^ (128 - length a.bits) - q.above) (2 ^ length a.bits) m n (omega (arith, big, q.once)) (omega (arith, wide (length a.bits) h)) p.is y)))))
 
 -- ---- products
 
@@ -154,7 +154,7 @@ signed_product true true (suc m) zero = let e : suc m * 0 ≡ 0 = omega arith in
 signed_product true true (suc m) (suc n) = refl
 
 pub product_is : (a b : Vector) (s t : Bool) (m n : ℕ) → length a.bits ≤ 128 → Some (with_sign s m) ≡ known_integer a → Some (with_sign t n) ≡ known_integer b →
-  value_of (length a.bits) a.signed (Some (with_sign (not (beq s t)) ((m * n) % 2 ^ 128))) ≡ arithmetic_of product a b
+    value_of (length a.bits) a.signed (Some (with_sign (not (beq s t)) ((m * n) % 2 ^ 128))) ≡ arithmetic_of product a b
 product_is a b s t m n h e f = rw (← e, ← f) (ap (λ (bs : List Bit). record { signed = a.signed; bits = bs })
     (low-cut (length a.bits) (m * n) (not (beq s t)) h ∙ ap (low_bits (length a.bits)) (sym (signed_product s t m n))))
 
@@ -170,7 +170,7 @@ signed_power true zero e h = absurd (omega (arith, h refl))
 signed_power true (suc m) e h = elim (is_digit e) [ inl p ↦ rw (p) refl | inr p ↦ rw (p) refl ]
 
 pub power_up_is : (a b : Vector) (s t : Bool) (m e : ℕ) (z : ℤ) → length a.bits ≤ 128 → (s ≡ true → 0 < m) → t ≡ false → Some (with_sign s m) ≡ known_integer a → Some (with_sign t e) ≡ known_integer b →
-  z ≡ with_sign (s && (e % 2 == 1)) (m ^ e % 2 ^ 128) → value_of (length a.bits) a.signed (Some z) ≡ arithmetic_of power a b
+    z ≡ with_sign (s && (e % 2 == 1)) (m ^ e % 2 ^ 128) → value_of (length a.bits) a.signed (Some z) ≡ arithmetic_of power a b
 power_up_is a b s t m e z h g t_is p q is = rw (← p, ← q, is, t_is) (ap (λ (bs : List Bit). record { signed = a.signed; bits = bs })
     (low-cut (length a.bits) (m ^ e) (s && (e % 2 == 1)) h ∙ ap (low_bits (length a.bits)) (sym (signed_power s m e g))))
 

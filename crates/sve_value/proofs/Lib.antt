@@ -9,3 +9,4 @@ pub mod Integers
 pub mod Logs
 pub mod Powers
 pub mod Texts
+pub mod Suited

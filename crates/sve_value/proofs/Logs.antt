@@ -23,9 +23,9 @@ unfolding powers_below
 powers-ceiling n k zero h c = omega arith
 powers-ceiling n k (suc width) h c = by_order width k
     (λ l. let e : suc width ≡ k = omega arith in
-      count_more (2 ^ width) n (powers_below n width) width (c.1 width l) (all_below n width (λ j i. c.1 j (omega (arith, i)))) ∙ e)
+    count_more (2 ^ width) n (powers_below n width) width (c.1 width l) (all_below n width (λ j i. c.1 j (omega (arith, i)))) ∙ e)
     (λ l. let up : 2 ^ k ≤ 2 ^ width = pow-le-pow_right (lit< tt) l in
-      count_same (2 ^ width) n (powers_below n width) k (omega (arith, c.0, up)) (powers-ceiling n k width l c))
+    count_same (2 ^ width) n (powers_below n width) k (omega (arith, c.0, up)) (powers-ceiling n k width l c))
 
 -- a number of so many digits has no greater logarithm
 pub ceiling_within : (n k width : ℕ) → n < 2 ^ width → IsCeilingOfLog n k → k ≤ width

@@ -42,7 +42,7 @@ slice_get-planes (suc width) o u (suc i) l = slice_get-planes width (o / 2) (u /
 pub same_planes : (width p q : ℕ) (d : Bit) (bs : List Bit) → length bs ≡ width → ((i : ℕ) → i < width → bit_in p q i ≡ get_or bs i d) → planes width p q ≡ bs
 same_planes width p q d bs e h = same_lists (planes width p q) bs (length-planes width p q ∙ sym e)
     (λ i d' l. let k : i < width = omega (arith, length-planes width p q) in
-      get_or-planes width p q i d' k ∙ h i k ∙ get_or_default bs i d d' (omega (arith, k, e)))
+    get_or-planes width p q i d' k ∙ h i k ∙ get_or_default bs i d d' (omega (arith, k, e)))
 
 -- ---- one word
 
@@ -58,17 +58,18 @@ bit_at-mod n i l =
 pub raised_low : (n by i : ℕ) → by < 128 → i < by → bit_at (n * 2 ^ by % 2 ^ 128) i ≡ 0
 raised_low n by i h l = bit_at-mod (n * 2 ^ by) i (omega arith) ∙
     (let e : n * 2 ^ by + 0 ≡ n * 2 ^ by = omega arith in
-     let P : ℕ → Type 0 = λ m. bit_at m i ≡ 0 in
-     subst P e (bit_at_cat_low n by 0 i l ∙ bit_at-zero i))
+    let P : ℕ → Type 0 = λ m. bit_at m i ≡ 0 in
+    subst P e (bit_at_cat_low n by 0 i l ∙ bit_at-zero i))
 
 pub raised_high : (n by i : ℕ) → by ≤ i → i < 128 → bit_at (n * 2 ^ by % 2 ^ 128) i ≡ bit_at n (i - by)
 raised_high n by i h l = bit_at-mod (n * 2 ^ by) i l ∙
     (let e : n * 2 ^ by + 0 ≡ n * 2 ^ by = omega arith in
-     let P : ℕ → Type 0 = λ m. bit_at m i ≡ bit_at n (i - by) in
-     subst P e (bit_at_cat_high n by 0 i (pow_pos by) h))
+    let P : ℕ → Type 0 = λ m. bit_at m i ≡ bit_at n (i - by) in
+    subst P e (bit_at_cat_high n by 0 i (pow_pos by) h))
 
 max-zero-left : (n : ℕ) → max 0 n ≡ n
 max-zero-left n = omega arith
+
 max-zero-right : (n : ℕ) → max n 0 ≡ n
 max-zero-right n = omega arith
 
@@ -94,17 +95,17 @@ digits_back X = refl
 digits_back Z = refl
 
 pub filled_planes : (width p q : ℕ) (b : Bit) → width ≤ 128 →
-  ((i : ℕ) → i < 128 → bit_at p i ≡ (if ones_digit b == 1 then 1 else 0)) →
-  ((i : ℕ) → i < 128 → bit_at q i ≡ (if unknowns_digit b == 1 then 1 else 0)) →
-  planes width p q ≡ replicate width b
+    ((i : ℕ) → i < 128 → bit_at p i ≡ (if ones_digit b == 1 then 1 else 0)) →
+    ((i : ℕ) → i < 128 → bit_at q i ≡ (if unknowns_digit b == 1 then 1 else 0)) →
+    planes width p q ≡ replicate width b
 filled_planes width p q b h f g = same_planes width p q b (replicate width b) (length-replicate width b) (λ i l.
     let k : i < 128 = omega arith in
     rw (f i k, g i k) (digits_back b ∙ sym (get_or-replicate width i b b l)))
 
 pub shift_in_planes : (width o u p q : ℕ) (b : Bit) → width ≤ 128 →
-  ((i : ℕ) → i < 1 → bit_at p i ≡ (if ones_digit b == 1 then 1 else 0)) → ((i : ℕ) → 1 ≤ i → i < 128 → bit_at p i ≡ bit_at o (i - 1)) →
-  ((i : ℕ) → i < 1 → bit_at q i ≡ (if unknowns_digit b == 1 then 1 else 0)) → ((i : ℕ) → 1 ≤ i → i < 128 → bit_at q i ≡ bit_at u (i - 1)) →
-  planes width p q ≡ take width (b ∷ planes width o u)
+    ((i : ℕ) → i < 1 → bit_at p i ≡ (if ones_digit b == 1 then 1 else 0)) → ((i : ℕ) → 1 ≤ i → i < 128 → bit_at p i ≡ bit_at o (i - 1)) →
+    ((i : ℕ) → i < 1 → bit_at q i ≡ (if unknowns_digit b == 1 then 1 else 0)) → ((i : ℕ) → 1 ≤ i → i < 128 → bit_at q i ≡ bit_at u (i - 1)) →
+    planes width p q ≡ take width (b ∷ planes width o u)
 shift_in_planes width o u p q b h pl ph ql qh = same_planes width p q Zero (take width (b ∷ planes width o u))
     (length-take-le width (b ∷ planes width o u) (omega (arith, length-planes width o u)))
     (λ i l. at_place i l (omega arith) ∙ sym (get_or-take width (b ∷ planes width o u) i Zero l))
@@ -119,7 +120,7 @@ shift_in_planes width o u p q b h pl ph ql qh = same_planes width p q Zero (take
 pub leftmost-planes : (width o u : ℕ) → 1 ≤ width → o < 2 ^ width → u < 2 ^ width → leftmost (planes width o u) ≡ bit_of (o / 2 ^ (width - 1)) (u / 2 ^ (width - 1))
 unfolding planes leftmost
 leftmost-planes zero o u h a b = absurd (omega arith)
-leftmost-planes (suc zero) o u h a b = 
+leftmost-planes (suc zero) o u h a b =
     let e : o % 2 ≡ o / 1 = omega arith in let f : u % 2 ≡ u / 1 = omega arith in rw (e, f) refl
 leftmost-planes (suc (suc width)) o u h a b =
     leftmost-planes (suc width) (o / 2) (u / 2) (omega arith) (half_below (suc width) o a) (half_below (suc width) u b) ∙ rw (step o width, step u width) refl

@@ -28,4 +28,4 @@ text_init bs i front mark new old start h e f g =
 pub text_more : (bs : List Bit) (i j : ℕ) (b : Bit) (front new old : List ℕ) → slice_get bs i ≡ Some b → j ≡ suc i → old ≡ front ++ bit_text (drop j bs) → new ≡ old ++ bit_letter b ∷ [] → new ≡ front ++ bit_text (drop i bs)
 text_more bs i j b front new old s e f g =
     rw (bit_text-drop bs i b s) (g ∙ ap (λ xs. xs ++ bit_letter b ∷ []) (f ∙ ap (λ k. front ++ bit_text (drop k bs)) e) ∙
-      append_assoc front (bit_text (drop (suc i) bs)) (bit_letter b ∷ []))
+    append_assoc front (bit_text (drop (suc i) bs)) (bit_letter b ∷ []))

@@ -26,11 +26,11 @@ shift_in_view a v b p q e h =
     ap (λ (x : Vector). shift_in_of x b) e
 
 pub concat_view : (a b : Inside) (v w r : Vector) → the_view a ≡ v → the_view b ≡ w → length v.bits + length w.bits ≤ 128 → the_invariant a → the_invariant b →
-  r ≡ vector (a.width + b.width) false (bit_or (a.ones * 2 ^ b.width % 2 ^ 128) b.ones) (bit_or (a.unknowns * 2 ^ b.width % 2 ^ 128) b.unknowns) →
-  r ≡ concat_of v w
+    r ≡ vector (a.width + b.width) false (bit_or (a.ones * 2 ^ b.width % 2 ^ 128) b.ones) (bit_or (a.unknowns * 2 ^ b.width % 2 ^ 128) b.unknowns) →
+    r ≡ concat_of v w
 concat_view a b v w r p q e i j is =
     let h : a.width + b.width ≤ 128 = omega (arith, width_of a v p, width_of b w q) in
     let turn : a.width + b.width ≡ b.width + a.width = omega arith in
     is ∙ rw (joined_word a.width b.width a.ones b.ones i.2 j.2 h, joined_word a.width b.width a.unknowns b.unknowns i.3 j.3 h, turn)
-      (ap (λ bs. record { signed = false; bits = bs }) (planes-append b.width a.width b.ones b.unknowns a.ones a.unknowns j.2 j.3)) ∙
+    (ap (λ bs. record { signed = false; bits = bs }) (planes-append b.width a.width b.ones b.unknowns a.ones a.unknowns j.2 j.3)) ∙
     ap (λ (x : Vector). concat_of x (the_view b)) p ∙ ap (λ (x : Vector). concat_of v x) q

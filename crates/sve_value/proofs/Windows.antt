@@ -44,10 +44,10 @@ get_or-padded : (bs : List Bit) (n i : ℕ) (out : Bit) → get_or (bs ++ replic
 get_or-padded bs n i out = by_order i (length bs)
     (λ h. get_or_append_left bs (replicate n out) out i h)
     (λ h. get_or-append_right bs (replicate n out) (length bs) i out refl h ∙
-      by_order (i - length bs) n
-        (λ k. get_or-replicate n (i - length bs) out out k)
-        (λ k. get_or_past (replicate n out) (i - length bs) out (omega (arith, length-replicate n out, k))) ∙
-      sym (get_or_past bs i out h))
+    by_order (i - length bs) n
+    (λ k. get_or-replicate n (i - length bs) out out k)
+    (λ k. get_or_past (replicate n out) (i - length bs) out (omega (arith, length-replicate n out, k))) ∙
+    sym (get_or_past bs i out h))
 
 fixed_length : (width : ℕ) (bs : List Bit) (out : Bit) → length (take width (bs ++ replicate width out)) ≡ width
 fixed_length width bs out = length-take-le width (bs ++ replicate width out) (omega (arith, length-append bs (replicate width out), length-replicate width out))
@@ -78,32 +78,32 @@ pub record IsPadded (from : ℕ → ℕ) (digit width word : ℕ) : Type 0 where
   pub above : (i : ℕ) → width ≤ i → i < 128 → bit_at word i ≡ digit
 
 pub window_above_planes : (width o u low n p q : ℕ) (out : Bit) → low < width → n ≤ 128 →
-  IsPadded (bit_at (o / 2 ^ low)) (if ones_digit out == 1 then 1 else 0) (width - low) p →
-  IsPadded (bit_at (u / 2 ^ low)) (if unknowns_digit out == 1 then 1 else 0) (width - low) q →
-  planes n p q ≡ window (pos low) n out (planes width o u)
+    IsPadded (bit_at (o / 2 ^ low)) (if ones_digit out == 1 then 1 else 0) (width - low) p →
+    IsPadded (bit_at (u / 2 ^ low)) (if unknowns_digit out == 1 then 1 else 0) (width - low) q →
+    planes n p q ≡ window (pos low) n out (planes width o u)
 window_above_planes width o u low n p q out l m f g = same_planes n p q out _ (fixed_length n (drop low (planes width o u)) out) (λ i k.
     by_order (low + i) width
-      (λ inside. rw (f.below i (omega (arith, inside)), g.below i (omega (arith, inside)), bit_at-shifted o low i, bit_at-shifted u low i)
-        (sym (get_or-planes width o u (low + i) out inside)))
-      (λ outside. rw (f.above i (omega (arith, outside)) (omega (arith, k)), g.above i (omega (arith, outside)) (omega (arith, k)))
-        (digits_back out ∙ sym (past_planes width o u (low + i) out outside))) ∙
+    (λ inside. rw (f.below i (omega (arith, inside)), g.below i (omega (arith, inside)), bit_at-shifted o low i, bit_at-shifted u low i)
+    (sym (get_or-planes width o u (low + i) out inside)))
+    (λ outside. rw (f.above i (omega (arith, outside)) (omega (arith, k)), g.above i (omega (arith, outside)) (omega (arith, k)))
+    (digits_back out ∙ sym (past_planes width o u (low + i) out outside))) ∙
     sym (get_or-above low n i (planes width o u) out k))
 
 pub window_below_planes : (width o u below n p q : ℕ) (v w : ℕ) (out : Bit) → n ≤ 128 →
-  IsPadded (bit_at o) (if ones_digit out == 1 then 1 else 0) width v →
-  IsPadded (bit_at u) (if unknowns_digit out == 1 then 1 else 0) width w →
-  ((i : ℕ) → i < below → bit_at p i ≡ (if ones_digit out == 1 then 1 else 0)) → ((i : ℕ) → below ≤ i → i < 128 → bit_at p i ≡ bit_at v (i - below)) →
-  ((i : ℕ) → i < below → bit_at q i ≡ (if unknowns_digit out == 1 then 1 else 0)) → ((i : ℕ) → below ≤ i → i < 128 → bit_at q i ≡ bit_at w (i - below)) →
-  planes n p q ≡ take n (replicate below out ++ planes width o u ++ replicate n out)
+    IsPadded (bit_at o) (if ones_digit out == 1 then 1 else 0) width v →
+    IsPadded (bit_at u) (if unknowns_digit out == 1 then 1 else 0) width w →
+    ((i : ℕ) → i < below → bit_at p i ≡ (if ones_digit out == 1 then 1 else 0)) → ((i : ℕ) → below ≤ i → i < 128 → bit_at p i ≡ bit_at v (i - below)) →
+    ((i : ℕ) → i < below → bit_at q i ≡ (if unknowns_digit out == 1 then 1 else 0)) → ((i : ℕ) → below ≤ i → i < 128 → bit_at q i ≡ bit_at w (i - below)) →
+    planes n p q ≡ take n (replicate below out ++ planes width o u ++ replicate n out)
 window_below_planes width o u below n p q v w out m f g pl ph ql qh = same_planes n p q out _ (fixed_length n (replicate below out ++ planes width o u) out) (λ i k.
     by_order i below
-      (λ before. rw (pl i before, ql i before) (digits_back out ∙ sym (get_or-before below i (planes width o u) out before)))
-      (λ behind. rw (ph i behind (omega (arith, k)), qh i behind (omega (arith, k)))
-        (by_order (i - below) width
-          (λ inside. rw (f.below (i - below) inside, g.below (i - below) inside) (sym (get_or-planes width o u (i - below) out inside)))
-          (λ outside. rw (f.above (i - below) outside (omega (arith, k)), g.above (i - below) outside (omega (arith, k)))
-            (digits_back out ∙ sym (past_planes width o u (i - below) out outside))) ∙
-         sym (get_or-behind below i (planes width o u) out behind))) ∙
+    (λ before. rw (pl i before, ql i before) (digits_back out ∙ sym (get_or-before below i (planes width o u) out before)))
+    (λ behind. rw (ph i behind (omega (arith, k)), qh i behind (omega (arith, k)))
+    (by_order (i - below) width
+    (λ inside. rw (f.below (i - below) inside, g.below (i - below) inside) (sym (get_or-planes width o u (i - below) out inside)))
+    (λ outside. rw (f.above (i - below) outside (omega (arith, k)), g.above (i - below) outside (omega (arith, k)))
+    (digits_back out ∙ sym (past_planes width o u (i - below) out outside))) ∙
+    sym (get_or-behind below i (planes width o u) out behind))) ∙
     sym (get_or-below below n i (planes width o u) out k))
 
 -- a window that lies wholly outside
@@ -120,7 +120,7 @@ pub window_before : (below width : ℕ) (bs : List Bit) (out : Bit) → width �
 window_before below width bs out h =
     left_past below width bs out h ∙
     sym (take-append-le width (replicate below out ++ bs) (replicate width out)
-      (omega (arith, length-append (replicate below out) bs, length-replicate below out, h)))
+    (omega (arith, length-append (replicate below out) bs, length-replicate below out, h)))
 
 -- ---- concatenation
 
@@ -140,7 +140,7 @@ planes-append zero more o u p q h k =
 planes-append (suc width) more o u p q h k =
     let e : suc width + more ≡ suc (width + more) = omega arith in
     rw (e, doubled p width, doubled q width) (rw (even_low (p * 2 ^ width) o, even_low (q * 2 ^ width) u, even_half (p * 2 ^ width) o, even_half (q * 2 ^ width) u)
-      (ap (λ bs. bit_of (o % 2) (u % 2) ∷ bs) (planes-append width more (o / 2) (u / 2) p q (half_below width o h) (half_below width u k))))
+    (ap (λ bs. bit_of (o % 2) (u % 2) ∷ bs) (planes-append width more (o / 2) (u / 2) p q (half_below width o h) (half_below width u k))))
 
 -- the word of the left operand moved past that of the right one
 pub joined_word : (more width p o : ℕ) → p < 2 ^ more → o < 2 ^ width → more + width ≤ 128 → bit_or (p * 2 ^ width % 2 ^ 128) o ≡ p * 2 ^ width + o

@@ -57,8 +57,9 @@ pub unknown-planes : (width o u : ℕ) → u < 2 ^ width → 0 < u → are_known
 unfolding planes are_known
 unknown-planes zero o u h k = absurd (omega arith)
 unknown-planes (suc width) o u h k = elim (is_digit u) [
-    inl p ↦ rw (unknown-planes width (o / 2) (u / 2) (half_below width u h) (omega arith)) (and-false (is_known (bit_of (o % 2) (u % 2))))
-  | inr p ↦ rw (p, unknown-low o) refl ]
+  | inl p ↦ rw (unknown-planes width (o / 2) (u / 2) (half_below width u h) (omega arith)) (and-false (is_known (bit_of (o % 2) (u % 2))))
+  | inr p ↦ rw (p, unknown-low o) refl
+]
 
 pub natural-planes : (width o : ℕ) → o < 2 ^ width → natural (planes width o 0) ≡ o
 unfolding planes natural

@@ -22,13 +22,15 @@ is_digit n = below_two (n % 2) (omega arith)
 
 ones_digit-bit_of : (o u : ℕ) → ones_digit (bit_of (o % 2) (u % 2)) ≡ o % 2
 ones_digit-bit_of o u = elim (is_digit o) [
-    inl p ↦ elim (is_digit u) [ inl q ↦ rw (p, q) refl | inr q ↦ rw (p, q) refl ]
-  | inr p ↦ elim (is_digit u) [ inl q ↦ rw (p, q) refl | inr q ↦ rw (p, q) refl ] ]
+  | inl p ↦ elim (is_digit u) [ inl q ↦ rw (p, q) refl | inr q ↦ rw (p, q) refl ]
+  | inr p ↦ elim (is_digit u) [ inl q ↦ rw (p, q) refl | inr q ↦ rw (p, q) refl ]
+]
 
 unknowns_digit-bit_of : (o u : ℕ) → unknowns_digit (bit_of (o % 2) (u % 2)) ≡ u % 2
 unknowns_digit-bit_of o u = elim (is_digit o) [
-    inl p ↦ elim (is_digit u) [ inl q ↦ rw (p, q) refl | inr q ↦ rw (p, q) refl ]
-  | inr p ↦ elim (is_digit u) [ inl q ↦ rw (p, q) refl | inr q ↦ rw (p, q) refl ] ]
+  | inl p ↦ elim (is_digit u) [ inl q ↦ rw (p, q) refl | inr q ↦ rw (p, q) refl ]
+  | inr p ↦ elim (is_digit u) [ inl q ↦ rw (p, q) refl | inr q ↦ rw (p, q) refl ]
+]
 
 pub ones_word-planes : (width ones unknowns : ℕ) → ones < 2 ^ width → ones_word (planes width ones unknowns) ≡ ones
 unfolding planes ones_word

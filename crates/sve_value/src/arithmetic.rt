@@ -25,7 +25,14 @@ pub(crate) fn minus(a: Bits) -> Bits
 {
     let (width, signed) = (a.width(), a.is_signed());
     match whole_of(a) {
-        Some(m) => value_of(width, signed, Whole { negative: !m.negative, size: m.size }),
+        Some(m) => value_of(
+            width,
+            signed,
+            Whole {
+                negative: !m.negative,
+                size: m.size,
+            },
+        ),
         None => Bits::filled(width, signed, Bit::X),
     }
 }
@@ -62,7 +69,14 @@ pub(crate) fn multiply(a: Bits, b: Bits) -> Bits
     match (whole_of(a), whole_of(b)) {
         (Some(m), Some(n)) => {
             let negative = m.negative ^ n.negative;
-            value_of(width, signed, Whole { negative, size: m.size.wrapping_mul(n.size) })
+            value_of(
+                width,
+                signed,
+                Whole {
+                    negative,
+                    size: m.size.wrapping_mul(n.size),
+                },
+            )
         }
         _ => Bits::filled(width, signed, Bit::X),
     }
@@ -76,7 +90,14 @@ pub(crate) fn divide(a: Bits, b: Bits) -> Bits
     match (whole_of(a), whole_of(b)) {
         (Some(m), Some(n)) if n.size != 0 => {
             let negative = m.negative ^ n.negative;
-            value_of(width, signed, Whole { negative, size: m.size / n.size })
+            value_of(
+                width,
+                signed,
+                Whole {
+                    negative,
+                    size: m.size / n.size,
+                },
+            )
         }
         _ => Bits::filled(width, signed, Bit::X),
     }
@@ -89,7 +110,14 @@ pub(crate) fn modulus(a: Bits, b: Bits) -> Bits
     let (width, signed) = (a.width(), a.is_signed());
     match (whole_of(a), whole_of(b)) {
         (Some(m), Some(n)) if n.size != 0 => {
-            value_of(width, signed, Whole { negative: m.negative, size: m.size % n.size })
+            value_of(
+                width,
+                signed,
+                Whole {
+                    negative: m.negative,
+                    size: m.size % n.size,
+                },
+            )
         }
         _ => Bits::filled(width, signed, Bit::X),
     }
@@ -104,14 +132,21 @@ fn power_of(base: u128, exponent: u128) -> u128
         return 1;
     }
     let half = power_of(base.wrapping_mul(base), exponent / 2);
-    if exponent % 2 == 1 { half.wrapping_mul(base) } else { half }
+    if exponent % 2 == 1 {
+        half.wrapping_mul(base)
+    } else {
+        half
+    }
 }
 
 /// A power of a whole number with an exponent that is not negative, cut to 128 digits.
 fn power_up(base: Whole, exponent: u128) -> Whole
     ensures { with_sign result.negative result.size ≡ with_sign (base.negative && (exponent % 2 == 1)) (base.size ^ exponent % 2 ^ 128) }
 {
-    Whole { negative: base.negative & (exponent % 2 == 1), size: power_of(base.size, exponent) }
+    Whole {
+        negative: base.negative & (exponent % 2 == 1),
+        size: power_of(base.size, exponent),
+    }
 }
 
 /// A power with an exponent below zero, by its size (Table 11-4); none for 0.
@@ -124,9 +159,15 @@ fn power_down(base: Whole, exponent: u128) -> Option<Whole>
         return None;
     }
     if base.size == 1 {
-        return Some(Whole { negative: base.negative & (exponent % 2 == 1), size: 1 });
+        return Some(Whole {
+            negative: base.negative & (exponent % 2 == 1),
+            size: 1,
+        });
     }
-    Some(Whole { negative: false, size: 0 })
+    Some(Whole {
+        negative: false,
+        size: 0,
+    })
 }
 
 /// `**` (11.4.3), of the size and sign of the left operand; the right one counts by its own sign.

@@ -60,7 +60,12 @@ pub(crate) fn of_words(width: u32, signed: bool, ones: u128, unknowns: u128) -> 
     ensures { result ≡ vector width signed ones unknowns }
 {
     let mask = mask(width);
-    Bits { width, signed, ones: ones & mask, unknowns: unknowns & mask }
+    Bits {
+        width,
+        signed,
+        ones: ones & mask,
+        unknowns: unknowns & mask,
+    }
 }
 
 /// The word all of whose digits are the same.
@@ -76,7 +81,11 @@ pub(crate) fn raised(word: u128, by: u32, set: bool) -> u128
     ensures below { (i : ℕ) → i < by → bit_at result i ≡ (if set then 1 else 0) }
     ensures above { (i : ℕ) → by ≤ i → i < 128 → bit_at result i ≡ bit_at word (i - by) }
 {
-    if set { word << by | ((1 << by) - 1) } else { word << by }
+    if set {
+        word << by | ((1 << by) - 1)
+    } else {
+        word << by
+    }
 }
 
 impl Bits {
@@ -93,7 +102,12 @@ impl Bits {
         requires { IsWidth width }
         ensures { result ≡ filled_of width signed bit }
     {
-        of_words(width, signed, repeated(bit.is_one_or_z()), repeated(bit.is_unknown()))
+        of_words(
+            width,
+            signed,
+            repeated(bit.is_one_or_z()),
+            repeated(bit.is_unknown()),
+        )
     }
 
     /// The value with one more bit on the right, from which the leftmost bit has fallen out: so the digits of a
@@ -149,6 +163,10 @@ impl Bits {
         ensures natural { result ≡ known_natural self }
         ensures fits { IfSome result (λ n. n < 2 ^ length self.bits) }
     {
-        if self.unknowns == 0 { Some(self.ones) } else { None }
+        if self.unknowns == 0 {
+            Some(self.ones)
+        } else {
+            None
+        }
     }
 }

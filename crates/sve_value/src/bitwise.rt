@@ -63,7 +63,12 @@ pub(crate) fn same_bits(a: Bits, b: Bits) -> Bits
     requires { IsAlike a b }
     ensures { result ≡ bitwise_of case_bit a b }
 {
-    of_words(a.width, a.signed, !(a.ones ^ b.ones | a.unknowns ^ b.unknowns), 0)
+    of_words(
+        a.width,
+        a.signed,
+        !(a.ones ^ b.ones | a.unknowns ^ b.unknowns),
+        0,
+    )
 }
 
 /// Which bits agree with a pattern, whose x and z agree with any bit (11.4.6).

@@ -1,14 +1,11 @@
 ghost use Rattle.std.specs.Prelude.{◌≡◌};
 ghost use Rattle.sve_value.specs.Operators.{unary_of, binary_of, Suits};
 
-use crate::arithmetic;
 use crate::bit::truth_bit;
 use crate::bits::Bits;
-use crate::bitwise;
-use crate::moves;
 use crate::operators::{Binary, Unary};
 use crate::reductions::{conjunction, disjunction, one_bit, parity, truth_bit_of};
-use crate::relations;
+use crate::{arithmetic, bitwise, moves, relations};
 
 /// The value of a unary operator (11.4). Plus, minus and `~` keep the size and the sign of the operand; `!` and the
 /// reductions give one unsigned bit.

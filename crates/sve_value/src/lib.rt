@@ -12,17 +12,18 @@ mod evaluate;
 mod logarithm;
 mod moves;
 mod operators;
-
 mod reductions;
 mod relations;
+#[cfg(test)]
+mod tests;
 mod text;
 mod whole;
 
 pub use bit::Bit;
 pub use bits::Bits;
+pub use evaluate::{binary, unary};
 pub use logarithm::clog2;
 pub use moves::{choose, concat, select};
-pub use evaluate::{binary, unary};
 pub use operators::{Binary, Unary};
-pub use text::{NoMemory, print};
 pub use reductions::truth;
+pub use text::{NoMemory, print};

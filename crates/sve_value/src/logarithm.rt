@@ -23,5 +23,9 @@ fn ceiling_of_log(n: u128, width: u32) -> u32
     ensures powers { result ≡ powers_below n width }
     ensures least { IsCeilingOfLog n result }
 {
-    if n <= 1 { 0 } else { 128 - (n - 1).leading_zeros() }
+    if n <= 1 {
+        0
+    } else {
+        128 - (n - 1).leading_zeros()
+    }
 }

@@ -95,7 +95,12 @@ pub fn concat(a: Bits, b: Bits) -> Bits
     ensures { result ≡ concat_of a b }
 {
     let by = b.width;
-    of_words(a.width + by, false, a.ones << by | b.ones, a.unknowns << by | b.unknowns)
+    of_words(
+        a.width + by,
+        false,
+        a.ones << by | b.ones,
+        a.unknowns << by | b.unknowns,
+    )
 }
 
 /// `c ? a : b` (11.4.11): the arm that the truth of `c` chooses, and with an unknown one each bit in which both arms

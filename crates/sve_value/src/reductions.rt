@@ -59,5 +59,9 @@ pub(crate) fn parity(a: Bits) -> Bit
     if a.unknowns != 0 {
         return Bit::X;
     }
-    if a.ones.count_ones() % 2 == 1 { Bit::One } else { Bit::Zero }
+    if a.ones.count_ones() % 2 == 1 {
+        Bit::One
+    } else {
+        Bit::Zero
+    }
 }

@@ -19,9 +19,15 @@ pub(crate) fn whole_of(a: Bits) -> Option<Whole>
 {
     let natural = a.natural()?;
     if a.is_negative() {
-        return Some(Whole { negative: true, size: mask(a.width()) - natural + 1 });
+        return Some(Whole {
+            negative: true,
+            size: mask(a.width()) - natural + 1,
+        });
     }
-    Some(Whole { negative: false, size: natural })
+    Some(Whole {
+        negative: false,
+        size: natural,
+    })
 }
 
 /// The value of a whole number, cut to the width.
@@ -29,7 +35,11 @@ pub(crate) fn value_of(width: u32, signed: bool, whole: Whole) -> Bits
     requires { IsWidth width }
     ensures { result ≡ value_of width signed (Some (with_sign whole.negative whole.size)) }
 {
-    let number = if whole.negative { 0u128.wrapping_sub(whole.size) } else { whole.size };
+    let number = if whole.negative {
+        0u128.wrapping_sub(whole.size)
+    } else {
+        whole.size
+    };
     Bits::number(width, signed, number)
 }
 

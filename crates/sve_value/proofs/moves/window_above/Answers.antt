@@ -19,6 +19,6 @@ returns-then-low-a c = c.filled.ensures ∙ ap (λ (bs : List Bit). record { sig
 pub returns : goal.returns
 returns c = c.of_words.ensures ∙ ap (λ (bs : List Bit). record { signed = c.args.signed; bits = bs })
     (window_above_planes c.a.inside.width c.a.inside.ones c.a.inside.unknowns c.args.low c.args.width _ _ c.args.outside c.if-low-a.false c.requires.1
-      (record { below = c.padded-ones.ensures.below; above = rw c.is_one_or_z.ensures at c.padded-ones.ensures.above })
-      (record { below = c.padded-unknowns.ensures.below; above = rw c.is_unknown.ensures at c.padded-unknowns.ensures.above }) ∙
-     ap (λ (v : Vector). window (pos c.args.low) c.args.width c.args.outside v.bits) c.a.view_is)
+    (record { below = c.padded-ones.ensures.below; above = rw c.is_one_or_z.ensures at c.padded-ones.ensures.above })
+    (record { below = c.padded-unknowns.ensures.below; above = rw c.is_unknown.ensures at c.padded-unknowns.ensures.above }) ∙
+    ap (λ (v : Vector). window (pos c.args.low) c.args.width c.args.outside v.bits) c.a.view_is)
