@@ -1,16 +1,16 @@
 -- The operators that go bit by bit, as formulas over words.
-use Rattle.std.proofs.Common.{◌≡◌, ℕ, ◌≤◌, length, refl, ap, ◌∙◌, sym}
+use Rattle.std.proofs.Common.{◌≡◌, length, refl, ap, ◌∙◌, sym}
 use Rattle.sve_value.specs.declared.bit.Bit.{Bit}
 use Rattle.sve_value.specs.declared.bits.Bits.TheInside.{Inside}
 use Rattle.sve_value.specs.contracts.bits.Bits.{the_view, the_invariant}
 use Rattle.sve_value.specs.Vector.{Vector}
 use Rattle.sve_value.specs.Alike.{IsAlike}
 use Rattle.sve_value.specs.Planes.{planes, vector}
-use Rattle.sve_value.specs.Bitwise.{each, pairs, bitwise_of, bitwise_not_of, not_bit, and_bit, or_bit, xor_bit, xnor_bit, merge_bit}
+use Rattle.sve_value.specs.Bitwise.{pairs, bitwise_of, bitwise_not_of, not_bit, and_bit, or_bit, xor_bit, xnor_bit, merge_bit}
 use Rattle.sve_value.specs.Relations.{case_bit, wildcard_bit}
 use Rattle.sve_value.proofs.Words.{below_128}
 use Rattle.sve_value.proofs.Views.{width_of}
-use Rattle.sve_value.proofs.Gates.{Gate, left_ones, left_unknowns, right_ones, right_unknowns, nothing, meet, join, differ, invert, word, Fit, IsTable, IsColumn, pairs-planes, each-planes}
+use Rattle.sve_value.proofs.Gates.{Gate, left_ones, left_unknowns, right_ones, right_unknowns, nothing, meet, join, differ, invert, word, Fit, IsTable, pairs-planes, each-planes}
 
 pub same_width : (a b : Inside) (v w : Vector) → the_view a ≡ v → the_view b ≡ w → length v.bits ≡ length w.bits → a.width ≡ b.width
 same_width a b v w p q e = width_of a v p ∙ e ∙ sym (width_of b w q)

@@ -1,6 +1,6 @@
 -- Formulas over four words, those of two operands. Two formulas, for the words of a result, are an operator that goes
 -- bit by bit, wherever they agree with its truth table on single bits.
-use Rattle.std.proofs.Common.{◌≡◌, ℕ, zero, suc, ◌+◌, ◌-◌, ◌*◌, ◌/◌, ◌%◌, ◌<◌, ◌≤◌, ◌^◌, ◌⊎◌, List, ◌∷◌, refl, ap, ◌∙◌, arith, inl, inr, bit_and, bit_or, bit_xor}
+use Rattle.std.proofs.Common.{◌≡◌, ℕ, zero, suc, ◌-◌, ◌/◌, ◌%◌, ◌<◌, ◌≤◌, ◌^◌, ◌∷◌, refl, ap, ◌∙◌, arith, inl, inr, bit_and, bit_or, bit_xor}
 use Rattle.std.proofs.lemmas.Nat.{and_mod, or_mod, xor_mod, and_shr, or_shr, xor_shr, and_le_l, or_lt, xor_lt, pow_pos}
 use Rattle.std.proofs.Math.Nat.{pow-suc}
 use Rattle.sve_value.specs.declared.bit.Bit.{Bit}

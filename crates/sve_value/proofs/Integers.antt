@@ -1,6 +1,6 @@
 -- Whole numbers and their lowest bits.
-use Rattle.std.proofs.Common.{◌≡◌, ℕ, zero, suc, ◌+◌, ◌-◌, ◌*◌, ◌/◌, ◌%◌, ◌<◌, ◌≤◌, ◌^◌, ◌⊎◌, Bool, true, false, not, ◌&&◌, ◌==◌, if◌then◌else◌, Option, Some, None, List, [], ◌∷◌, length, refl, ap, ◌∙◌, sym, subst, arith, inl, inr, ℤ, pos, negsuc, neg_ℤ, ◌+ℤ◌, ◌-ℤ◌, ◌*ℤ◌, unsigned_abs, int_lt, int_le}
-use Rattle.std.specs.Int.{int_rem_euclid, int_pow}
+use Rattle.std.proofs.Common.{◌≡◌, ℕ, zero, suc, ◌+◌, ◌-◌, ◌*◌, ◌/◌, ◌%◌, ◌<◌, ◌≤◌, ◌^◌, Bool, true, false, not, ◌&&◌, ◌==◌, if◌then◌else◌, Some, None, List, [], ◌∷◌, length, refl, ap, ◌∙◌, sym, subst, arith, inl, inr, ℤ, pos, neg_ℤ, ◌+ℤ◌, ◌-ℤ◌, ◌*ℤ◌, unsigned_abs}
+use Rattle.std.specs.Int.{int_pow}
 use Rattle.std.specs.Bool.{beq}
 use Rattle.std.proofs.lemmas.Int.{ints, int_rem_euclid_is}
 use Rattle.std.proofs.lemmas.Nat.{pow_pos, pow-add}
@@ -9,9 +9,9 @@ use Rattle.sve_value.specs.declared.bit.Bit.{Bit}
 use Rattle.sve_value.specs.declared.bit.Bit.TheVariants.{Zero, One, X, Z}
 use Rattle.sve_value.specs.Vector.{Vector}
 use Rattle.sve_value.specs.Back.{is_digit}
-use Rattle.sve_value.specs.Numbers.{is_one, are_known, digit, natural, leftmost, is_negative, integer, known_natural, known_integer, binary, low_bits, with_sign, value_of, number_of}
+use Rattle.sve_value.specs.Numbers.{is_one, are_known, natural, leftmost, is_negative, integer, known_natural, known_integer, binary, low_bits, with_sign, value_of, number_of}
 use Rattle.sve_value.specs.Arithmetic.{sum, difference, product, power, arithmetic_of}
-use Rattle.sve_value.proofs.Words.{binary-same, binary-mod, natural-below}
+use Rattle.sve_value.proofs.Words.{binary-same, binary-mod}
 
 -- a whole number has the low bits of each number that lies a multiple of the modulus above it
 pub low-shift : (width k n : ℕ) (z : ℤ) → z +ℤ pos (k * 2 ^ width) ≡ pos n → low_bits width z ≡ binary width n

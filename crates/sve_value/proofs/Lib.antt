@@ -10,3 +10,4 @@ pub mod Logs
 pub mod Powers
 pub mod Texts
 pub mod Suited
+pub mod Widths

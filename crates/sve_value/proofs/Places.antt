@@ -1,15 +1,14 @@
 -- Bits by their places: how moves of words are moves of lists.
-use Rattle.std.proofs.Common.{◌≡◌, ℕ, zero, suc, ◌+◌, ◌-◌, ◌*◌, ◌/◌, ◌%◌, ◌<◌, ◌≤◌, ◌^◌, Bool, true, false, ◌==◌, if◌then◌else◌, List, [], ◌∷◌, ◌++◌, length, take, drop, replicate, get_or, slice_get, Some, refl, ap, ◌∙◌, sym, subst, arith, bit_and, bit_or, max, inl, inr}
+use Rattle.std.proofs.Common.{◌≡◌, ℕ, zero, suc, ◌+◌, ◌-◌, ◌*◌, ◌/◌, ◌%◌, ◌<◌, ◌≤◌, ◌^◌, ◌==◌, if◌then◌else◌, List, ◌∷◌, length, take, replicate, get_or, slice_get, Some, refl, ap, ◌∙◌, sym, subst, arith, bit_or, max, inl, inr}
 use Rattle.std.specs.Int.{bit_at}
 use Rattle.std.proofs.lemmas.Bool.{cases_lt}
-use Rattle.std.proofs.lemmas.Nat.{pow_pos, one_shl, shr-shr, shr_below, field_of}
-use Rattle.std.proofs.lemmas.Nat.Bits.{bit_at_lowest, bit_at-suc, bit_at_or, bit_at_ones, bit_at_ones_above, bit_at-zero, bit_at_cat_low, bit_at_cat_high, shr_and_one}
-use Rattle.std.proofs.lemmas.List.{same_lists, get_or_default, get_or-replicate, get_or-take, get_or_past, length-take-le, length-replicate}
-use Rattle.std.proofs.Math.Nat.{pow-suc, pow-zero}
+use Rattle.std.proofs.lemmas.Nat.{pow_pos, one_shl, shr-shr, field_of}
+use Rattle.std.proofs.lemmas.Nat.Bits.{bit_at_lowest, bit_at-suc, bit_at_or, bit_at_ones, bit_at_ones_above, bit_at-zero, bit_at_cat_low, bit_at_cat_high}
+use Rattle.std.proofs.lemmas.List.{same_lists, get_or_default, get_or-replicate, get_or-take, length-take-le, length-replicate}
 use Rattle.sve_value.specs.declared.bit.Bit.{Bit}
 use Rattle.sve_value.specs.declared.bit.Bit.TheVariants.{Zero, One, X, Z}
 use Rattle.sve_value.specs.Planes.{bit_of, planes, ones_digit, unknowns_digit}
-use Rattle.sve_value.specs.Back.{length-planes, half_below, is_digit}
+use Rattle.sve_value.specs.Back.{length-planes, half_below}
 use Rattle.sve_value.specs.Numbers.{leftmost}
 use Rattle.sve_value.proofs.Words.{low_digit-mod}
 

@@ -1,5 +1,5 @@
 -- Powers by squares.
-use Rattle.std.proofs.Common.{◌≡◌, ℕ, zero, suc, ◌+◌, ◌*◌, ◌/◌, ◌%◌, ◌^◌, refl, ap, ◌∙◌, sym, arith}
+use Rattle.std.proofs.Common.{◌≡◌, ℕ, suc, ◌+◌, ◌*◌, ◌/◌, ◌%◌, ◌^◌, refl, ap, ◌∙◌, sym, arith}
 use Rattle.std.proofs.lemmas.Nat.{pow-mod, mul-pow, pow-add, mul-mod_first}
 use Rattle.std.proofs.Math.Nat.{pow-suc, pow-zero}
 

@@ -1,10 +1,12 @@
 -- From the words of a value to what contracts see of it.
-use Rattle.std.proofs.Common.{◌≡◌, ℕ, ◌+◌, ◌*◌, ◌%◌, bit_or, false, ◌<◌, ◌≤◌, ◌^◌, Bool, Some, None, List, ◌∷◌, take, length, refl, ap, ◌∙◌, sym, arith}
+use Rattle.std.proofs.Common.{◌≡◌, ℕ, ◌+◌, ◌*◌, ◌%◌, bit_or, false, IsTrue, nat_eq, ◌&&◌, ◌<◌, ◌≤◌, ◌^◌, Bool, Some, None, ◌∷◌, take, length, refl, ap, ◌∙◌, sym, arith}
+use Rattle.std.specs.Bool.{beq}
+use Rattle.std.proofs.lemmas.Bool.Decides.{nat_tests}
 use Rattle.sve_value.specs.declared.bits.Bits.TheInside.{Inside}
 use Rattle.sve_value.specs.contracts.bits.Bits.{the_view, the_invariant}
 use Rattle.sve_value.specs.Vector.{Vector}
-use Rattle.sve_value.specs.Planes.{planes, vector}
-use Rattle.sve_value.specs.Back.{length-planes}
+use Rattle.sve_value.specs.Planes.{planes, vector, ones_word, unknowns_word}
+use Rattle.sve_value.specs.Back.{length-planes, ones_word-planes, unknowns_word-planes}
 use Rattle.sve_value.specs.declared.bit.Bit.{Bit}
 use Rattle.sve_value.specs.Numbers.{known_natural}
 use Rattle.sve_value.specs.Moves.{shift_in_of, concat_of}
@@ -34,3 +36,20 @@ concat_view a b v w r p q e i j is =
     is ∙ rw (joined_word a.width b.width a.ones b.ones i.2 j.2 h, joined_word a.width b.width a.unknowns b.unknowns i.3 j.3 h, turn)
     (ap (λ bs. record { signed = false; bits = bs }) (planes-append b.width a.width b.ones b.unknowns a.ones a.unknowns j.2 j.3)) ∙
     ap (λ (x : Vector). concat_of x (the_view b)) p ∙ ap (λ (x : Vector). concat_of v x) q
+
+-- values are equal where their words are
+same_view : (a b : Inside) → a.width ≡ b.width → a.signed ≡ b.signed → a.ones ≡ b.ones → a.unknowns ≡ b.unknowns → the_view a ≡ the_view b
+same_view a b e f g h = rw (e, f, g, h) refl
+
+pub same_is : (a b : Inside) (v w : Vector) → the_view a ≡ v → the_view b ≡ w → the_invariant a → the_invariant b →
+  (IsTrue (((nat_eq a.width b.width && beq a.signed b.signed) && nat_eq a.ones b.ones) && nat_eq a.unknowns b.unknowns) → v ≡ w) ×
+  (v ≡ w → IsTrue (((nat_eq a.width b.width && beq a.signed b.signed) && nat_eq a.ones b.ones) && nat_eq a.unknowns b.unknowns))
+same_is a b v w p q i j =
+    ((λ t. let e : (a.width ≡ b.width) × (a.signed ≡ b.signed) × (a.ones ≡ b.ones) × (a.unknowns ≡ b.unknowns) = grind (arith, nat_tests) in
+       sym p ∙ same_view a b e.0 e.1 e.2 e.3 ∙ q),
+     (λ t. let r : the_view a ≡ the_view b = p ∙ t ∙ sym q in
+       let e : a.width ≡ b.width = sym (length-planes a.width a.ones a.unknowns) ∙ ap (λ (x : Vector). length x.bits) r ∙ length-planes b.width b.ones b.unknowns in
+       let f : a.signed ≡ b.signed = ap (λ (x : Vector). x.signed) r in
+       let g : a.ones ≡ b.ones = sym (ones_word-planes a.width a.ones a.unknowns i.2) ∙ ap (λ (x : Vector). ones_word x.bits) r ∙ ones_word-planes b.width b.ones b.unknowns j.2 in
+       let h : a.unknowns ≡ b.unknowns = sym (unknowns_word-planes a.width a.ones a.unknowns i.3) ∙ ap (λ (x : Vector). unknowns_word x.bits) r ∙ unknowns_word-planes b.width b.ones b.unknowns j.3 in
+       grind (arith, nat_tests)))

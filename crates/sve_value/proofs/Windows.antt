@@ -1,18 +1,16 @@
 -- Windows on a list: what the words of a moved value stand for.
-use Rattle.std.proofs.Common.{◌≡◌, ℕ, zero, suc, ◌+◌, ◌-◌, ◌*◌, ◌/◌, ◌%◌, ◌<◌, ◌≤◌, ◌^◌, Bool, true, false, ◌==◌, if◌then◌else◌, List, [], ◌∷◌, ◌++◌, length, take, drop, replicate, get_or, refl, ap, ◌∙◌, sym, subst, arith, bit_or, max, pos}
+use Rattle.std.proofs.Common.{◌≡◌, ℕ, zero, suc, ◌+◌, ◌-◌, ◌*◌, ◌/◌, ◌%◌, ◌<◌, ◌≤◌, ◌^◌, ◌==◌, if◌then◌else◌, List, [], ◌∷◌, ◌++◌, length, take, drop, replicate, get_or, refl, ap, ◌∙◌, sym, subst, arith, bit_or, max, pos}
 use Rattle.std.specs.Int.{bit_at}
 use Rattle.std.proofs.lemmas.Nat.{pow_pos, shr-shr, shr_below, shl_whole, or_shifted}
 use Rattle.std.proofs.lemmas.Nat.Bits.{bit_at_or, bit_at_above, bit_at_mask_inside, bit_at_mask_below}
-use Rattle.std.proofs.lemmas.List.{get_or_append_left, get_or-append_right, get_or-replicate, get_or-take, get_or-drop, get_or_past, length-append, length-drop, length-replicate, length-take-le, take-append-le, take-replicate}
+use Rattle.std.proofs.lemmas.List.{get_or_append_left, get_or-append_right, get_or-replicate, get_or-take, get_or-drop, get_or_past, length-append, length-replicate, length-take-le, take-append-le, take-replicate}
 use Rattle.std.proofs.Math.ListN.{drop_of_length-le}
 use Rattle.std.proofs.Math.Nat.{pow-suc}
 use Rattle.sve_value.specs.declared.bit.Bit.{Bit}
-use Rattle.sve_value.specs.declared.bit.Bit.TheVariants.{Zero, One, X, Z}
-use Rattle.sve_value.specs.Vector.{Vector}
-use Rattle.sve_value.specs.Planes.{bit_of, planes, vector, ones_digit, unknowns_digit}
+use Rattle.sve_value.specs.Planes.{bit_of, planes, ones_digit, unknowns_digit}
 use Rattle.sve_value.specs.Back.{length-planes, half_below}
-use Rattle.sve_value.specs.Moves.{window, concat_of}
-use Rattle.sve_value.proofs.Places.{by_order, bit_in, get_or-planes, same_planes, digits_back}
+use Rattle.sve_value.specs.Moves.{window}
+use Rattle.sve_value.proofs.Places.{by_order, get_or-planes, same_planes, digits_back}
 
 -- ---- one word
 

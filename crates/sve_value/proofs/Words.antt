@@ -1,9 +1,9 @@
 -- Words of 128 digits and the bits that they stand for.
-use Rattle.std.proofs.Common.{◌≡◌, ℕ, zero, suc, ◌+◌, ◌-◌, ◌*◌, ◌/◌, ◌%◌, ◌<◌, ◌≤◌, ◌^◌, Bool, true, false, ◌&&◌, ◌==◌, if◌then◌else◌, List, [], ◌∷◌, length, replicate, refl, ap, ◌∙◌, sym, subst, arith, add-one, bit_and, inl, inr, lit<}
-use Rattle.std.proofs.lemmas.Nat.{pow_pos, pow-add, and_mask, field_of}
+use Rattle.std.proofs.Common.{◌≡◌, ℕ, zero, suc, ◌+◌, ◌-◌, ◌*◌, ◌/◌, ◌%◌, ◌<◌, ◌≤◌, ◌^◌, Bool, true, false, ◌&&◌, ◌==◌, if◌then◌else◌, List, [], ◌∷◌, length, refl, ap, ◌∙◌, sym, subst, arith, add-one, bit_and, inl, inr, lit<}
+use Rattle.std.proofs.lemmas.Nat.{and_mask, field_of}
 use Rattle.std.proofs.lemmas.Nat.Bits.{ones_shr}
 use Rattle.std.proofs.Math.Pow.{mod-mod-pow}
-use Rattle.std.proofs.Math.Nat.{pow-suc, pow-le-pow_right, add-mul-mod_self_right, suc-mul}
+use Rattle.std.proofs.Math.Nat.{pow-suc, pow-le-pow_right}
 use Rattle.sve_value.specs.declared.bit.Bit.{Bit}
 use Rattle.sve_value.specs.declared.bit.Bit.TheVariants.{Zero, One, X, Z}
 use Rattle.sve_value.specs.Planes.{bit_of, planes}

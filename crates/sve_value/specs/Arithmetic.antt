@@ -1,5 +1,5 @@
 -- Arithmetic operators (IEEE 1800-2017, 11.4.3 and 11.4.4; Table 11-4 for powers) and `$clog2` (20.8.1).
-use Rattle.std.specs.Prelude.{◌≡◌, ℕ, zero, suc, ◌+◌, ◌<◌, ◌≤◌, ◌^◌, true, nat_lt, if◌then◌else◌, ℤ, pos, negsuc, neg_ℤ, ◌+ℤ◌, ◌-ℤ◌, ◌*ℤ◌, int_div, int_rem, length, Option, Some, None}
+use Rattle.std.specs.Prelude.{ℕ, zero, suc, ◌+◌, ◌<◌, ◌≤◌, ◌^◌, true, nat_lt, if◌then◌else◌, ℤ, pos, negsuc, neg_ℤ, ◌+ℤ◌, ◌-ℤ◌, ◌*ℤ◌, int_div, int_rem, length, Option, Some, None}
 use Rattle.std.specs.Int.{int_pow}
 use Rattle.sve_value.specs.Vector.{Vector}
 use Rattle.sve_value.specs.Numbers.{known_natural, known_integer, value_of}

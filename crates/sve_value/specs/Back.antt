@@ -1,5 +1,5 @@
 -- The list of bits gives back the words that it was made from, so that a value can be copied.
-use Rattle.std.proofs.Common.{◌≡◌, ℕ, zero, suc, ◌+◌, ◌*◌, ◌/◌, ◌%◌, ◌<◌, ◌^◌, ◌⊎◌, length, refl, ap, arith, inl, inr}
+use Rattle.std.proofs.Common.{◌≡◌, ℕ, zero, suc, ◌/◌, ◌%◌, ◌<◌, ◌^◌, ◌⊎◌, length, refl, ap, arith, inl, inr}
 use Rattle.std.proofs.Math.Nat.{pow-suc}
 use Rattle.sve_value.specs.Planes.{bit_of, planes, ones_digit, unknowns_digit, ones_word, unknowns_word}
 

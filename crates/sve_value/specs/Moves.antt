@@ -1,8 +1,8 @@
 -- Operators that move bits: extension (IEEE 1800-2017, 10.7 and 11.8.2), shifts (11.4.10), concatenation (11.4.12),
 -- selects (11.5.1) and the conditional operator (11.4.11). Lists begin with the least significant bit.
-use Rattle.std.specs.Prelude.{ℕ, suc, Bool, true, false, if◌then◌else◌, ℤ, pos, negsuc, List, [], ◌∷◌, ◌++◌, length, take, drop, replicate, Option, Some, None}
+use Rattle.std.specs.Prelude.{ℕ, suc, Bool, true, false, if◌then◌else◌, ℤ, pos, negsuc, List, ◌∷◌, ◌++◌, length, take, drop, replicate, Option, Some, None}
 use Rattle.sve_value.specs.declared.bit.Bit.{Bit}
-use Rattle.sve_value.specs.declared.bit.Bit.TheVariants.{Zero, One, X, Z}
+use Rattle.sve_value.specs.declared.bit.Bit.TheVariants.{Zero, X}
 use Rattle.sve_value.specs.Vector.{Vector}
 use Rattle.sve_value.specs.Bitwise.{merge_bit, bitwise_of}
 use Rattle.sve_value.specs.Numbers.{leftmost, known_natural}

@@ -1,5 +1,5 @@
 -- The whole numbers that bits stand for (IEEE 1800-2017, 6.11.3 and 11.4.3), and the bits of a whole number.
-use Rattle.std.specs.Prelude.{ℕ, zero, suc, ◌+◌, ◌*◌, ◌/◌, ◌%◌, ◌^◌, Bool, true, false, ◌&&◌, ◌==◌, if◌then◌else◌, ℤ, pos, neg_ℤ, ◌-ℤ◌, unsigned_abs, List, [], ◌∷◌, length, replicate, Option, Some, None}
+use Rattle.std.specs.Prelude.{ℕ, zero, suc, ◌+◌, ◌-◌, ◌*◌, ◌/◌, ◌%◌, ◌^◌, Bool, true, false, ◌&&◌, ◌==◌, if◌then◌else◌, ℤ, pos, negsuc, neg_ℤ, ◌-ℤ◌, int_lt, int_le, unsigned_abs, List, [], ◌∷◌, length, replicate, Option, Some, None}
 use Rattle.std.specs.Int.{int_rem_euclid}
 use Rattle.sve_value.specs.declared.bit.Bit.{Bit}
 use Rattle.sve_value.specs.declared.bit.Bit.TheVariants.{Zero, One, X, Z}
@@ -57,6 +57,14 @@ known_natural v = if are_known v.bits then Some (natural v.bits) else None
 
 abbrev pub known_integer : Vector → Option ℤ
 known_integer v = if are_known v.bits then Some (integer v) else None
+
+-- that whole number, where it lies in the range of 64 signed bits (own)
+abbrev pub is_short : ℤ → Bool
+is_short z = int_le (negsuc (2 ^ 63 - 1)) z && int_lt z (pos (2 ^ 63))
+
+abbrev pub short_integer : Option ℤ → Option ℤ
+short_integer (Some z) = if is_short z then Some z else None
+short_integer None = None
 
 -- the lowest digits of a number in base two
 unfoldable pub binary : ℕ → ℕ → List Bit

@@ -1,9 +1,9 @@
 -- Relational operators (IEEE 1800-2017, 11.4.4), equality (11.4.5) and wildcard equality (11.4.6).
-use Rattle.std.specs.Prelude.{Bool, true, false, if◌then◌else◌, ℤ, int_lt, int_le, Option, Some, None}
+use Rattle.std.specs.Prelude.{Bool, ℤ, Option, Some, None}
 use Rattle.sve_value.specs.declared.bit.Bit.{Bit}
 use Rattle.sve_value.specs.declared.bit.Bit.TheVariants.{Zero, One, X, Z}
 use Rattle.sve_value.specs.Vector.{Vector}
-use Rattle.sve_value.specs.Bitwise.{row, not_bit, xnor_bit, pairs}
+use Rattle.sve_value.specs.Bitwise.{row, not_bit, pairs}
 use Rattle.sve_value.specs.Numbers.{known_integer}
 use Rattle.sve_value.specs.Truths.{truth_bit, one_bit, conjunction}
 

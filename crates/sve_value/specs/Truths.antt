@@ -2,9 +2,9 @@
 use Rattle.std.specs.Prelude.{Bool, true, false, if◌then◌else◌, List, [], ◌∷◌, Option, Some, None}
 use Rattle.std.specs.List.{list_any, list_all}
 use Rattle.sve_value.specs.declared.bit.Bit.{Bit}
-use Rattle.sve_value.specs.declared.bit.Bit.TheVariants.{Zero, One, X, Z}
+use Rattle.sve_value.specs.declared.bit.Bit.TheVariants.{Zero, One, X}
 use Rattle.sve_value.specs.Vector.{Vector}
-use Rattle.sve_value.specs.Bitwise.{not_bit, and_bit, or_bit, xor_bit, xnor_bit}
+use Rattle.sve_value.specs.Bitwise.{not_bit, and_bit, or_bit, xor_bit}
 use Rattle.sve_value.specs.Numbers.{is_one, is_zero}
 
 -- a value is true where a bit is 1, false where every bit is 0, and else unknown

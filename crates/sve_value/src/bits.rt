@@ -1,4 +1,4 @@
-ghost use Rattle.std.specs.Prelude.{◌≡◌, ℕ, ◌+◌, ◌-◌, ◌*◌, ◌/◌, ◌%◌, ◌<◌, ◌≤◌, ◌^◌, Some, IfSome, length, slice_get, if◌then◌else◌};
+ghost use Rattle.std.specs.Prelude.{◌≡◌, ℕ, ◌+◌, ◌-◌, ◌*◌, ◌/◌, ◌%◌, ◌<◌, ◌≤◌, ◌^◌, Some, IfSome, IsTrue, ◌↔◌, length, slice_get, if◌then◌else◌};
 ghost use Rattle.std.specs.Int.{bit_at};
 ghost use Rattle.sve_value.specs.Vector.{IsWidth};
 ghost use Rattle.sve_value.specs.Planes.{vector};
@@ -118,6 +118,16 @@ impl Bits {
         let ones = raised(self.ones, 1, bit.is_one_or_z());
         let unknowns = raised(self.unknowns, 1, bit.is_unknown());
         of_words(self.width, self.signed, ones, unknowns)
+    }
+
+    /// Whether another value has the same sign, the same width and the same bits, x and z as such.
+    pub fn is_same(self, other: Bits) -> bool
+        ensures { IsTrue result ↔ (self ≡ other) }
+    {
+        (self.width == other.width)
+            & (self.signed == other.signed)
+            & (self.ones == other.ones)
+            & (self.unknowns == other.unknowns)
     }
 
     /// The number of bits, 1 to 128.

@@ -1,7 +1,7 @@
 ghost use Rattle.std.specs.Prelude.{◌≡◌, ◌+◌, ◌-◌, ◌<◌, ◌≤◌, ◌^◌, ◌%◌, true, Some, IfSome, int_lt, length};
 ghost use Rattle.std.specs.Option.{option_map};
 ghost use Rattle.sve_value.specs.Vector.{IsWidth};
-ghost use Rattle.sve_value.specs.Numbers.{with_sign, known_integer, value_of};
+ghost use Rattle.sve_value.specs.Numbers.{with_sign, known_integer, value_of, short_integer};
 
 use crate::bits::{Bits, mask};
 
@@ -53,5 +53,24 @@ pub(crate) fn is_less(a: Whole, b: Whole) -> bool
         (false, false) => a.size < b.size,
         (true, true) => b.size < a.size,
         (negative, _) => negative,
+    }
+}
+
+impl Bits {
+    /// The whole number that the value stands for, in two's complement where it is signed; none where a bit is x or z,
+    /// and where the number is out of the range of an `i64`.
+    pub fn integer(self) -> Option<i64>
+        ensures { result ≡ short_integer (known_integer self) }
+    {
+        let whole = whole_of(self)?;
+        if whole.size >= 1 << 63 {
+            return if whole.negative & (whole.size == 1 << 63) {
+                Some(i64::MIN)
+            } else {
+                None
+            };
+        }
+        let size = whole.size as i64;
+        Some(if whole.negative { -size } else { size })
     }
 }

@@ -1,4 +1,4 @@
-use Rattle.std.proofs.Common.{◌∙◌, ap, arith, List, pos, sym}
+use Rattle.std.proofs.Common.{◌∙◌, ap, arith, List, pos}
 use Rattle.sve_value.specs.declared.bit.Bit.{Bit}
 use Rattle.sve_value.specs.Vector.{Vector}
 use Rattle.sve_value.specs.Moves.{window}

@@ -1,4 +1,4 @@
-use Rattle.std.proofs.Common.{◌∙◌, ap, sym, arith, refl}
+use Rattle.std.proofs.Common.{◌∙◌, ap, sym, arith}
 use Rattle.sve_value.specs.Vector.{Vector}
 use Rattle.sve_value.specs.Truths.{parity}
 use Rattle.sve_value.proofs.Folds.{parity-unknown, parity-odd, parity-even}

@@ -1,5 +1,5 @@
 use Rattle.std.proofs.Common.{◌≡◌, ◌∙◌, ◌-◌, ◌+◌, arith, ap, ◌++◌, codes, ◌∷◌, []}
-use Rattle.sve_value.specs.Text.{size_text, bit_letter}
+use Rattle.sve_value.specs.Text.{size_text}
 use Rattle.sve_value.proofs.Texts.{text_init, text_more}
 use Rattle.sve_value.proofs.text.bits_text.Goals as goal
 

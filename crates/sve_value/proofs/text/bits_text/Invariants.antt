@@ -1,4 +1,4 @@
-use Rattle.std.proofs.Common.{◌≡◌, ◌++◌, ◌-◌, drop, codes, length}
+use Rattle.std.proofs.Common.{◌≡◌, ◌++◌, ◌-◌, drop, codes}
 use Rattle.sve_value.specs.Text.{size_text, bit_text}
 use Rattle.sve_value.proofs.text.bits_text.Given as goal
 

@@ -1,6 +1,5 @@
 use Rattle.std.proofs.Common.{◌∙◌, ap, List, arith}
 use Rattle.sve_value.specs.declared.bit.Bit.{Bit}
-use Rattle.sve_value.specs.Numbers.{number_of}
 use Rattle.sve_value.proofs.Integers.{low-size, low-neg-wide}
 use Rattle.sve_value.proofs.whole.value_of.Goals as goal
 use Rattle.sve_value.proofs.whole.value_of.Goals.{then-whole, else-whole}

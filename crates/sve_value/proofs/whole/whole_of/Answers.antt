@@ -1,6 +1,4 @@
-use Rattle.std.proofs.Common.{sym, ◌∙◌, ◌<◌, arith, ◌^◌, ◌≤◌, length, Fits}
-use Rattle.std.proofs.Math.Nat.{pow-le-pow_right}
-use Rattle.sve_value.proofs.Words.{below_128}
+use Rattle.std.proofs.Common.{sym, ◌<◌, arith}
 use Rattle.sve_value.proofs.Integers.{negative_positive}
 use Rattle.sve_value.proofs.whole.whole_of.Goals as goal
 

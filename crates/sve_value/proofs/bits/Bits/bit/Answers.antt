@@ -1,4 +1,4 @@
-use Rattle.std.proofs.Common.{ap, ◌∙◌, slice_get, sym, Some, refl, arith}
+use Rattle.std.proofs.Common.{ap, ◌∙◌, slice_get, sym, refl, arith}
 use Rattle.std.proofs.lemmas.Nat.Bits.{shr_and_one}
 use Rattle.sve_value.specs.Vector.{Vector}
 use Rattle.sve_value.proofs.Places.{slice_get-planes}

@@ -1,7 +1,4 @@
-use Rattle.std.proofs.Common.{ap, ◌∙◌, take, ◌∷◌, length}
-use Rattle.sve_value.specs.Vector.{Vector}
-use Rattle.sve_value.specs.Planes.{planes, vector}
-use Rattle.sve_value.specs.Moves.{shift_in_of}
+use Rattle.std.proofs.Common.{◌∙◌}
 use Rattle.sve_value.proofs.Places.{shift_in_planes}
 use Rattle.sve_value.proofs.Views.{shift_in_view}
 use Rattle.sve_value.proofs.bits.Bits.shift_in.Goals as goal
