@@ -42,14 +42,15 @@ same_view : (a b : Inside) → a.width ≡ b.width → a.signed ≡ b.signed →
 same_view a b e f g h = rw (e, f, g, h) refl
 
 pub same_is : (a b : Inside) (v w : Vector) → the_view a ≡ v → the_view b ≡ w → the_invariant a → the_invariant b →
-  (IsTrue (((nat_eq a.width b.width && beq a.signed b.signed) && nat_eq a.ones b.ones) && nat_eq a.unknowns b.unknowns) → v ≡ w) ×
-  (v ≡ w → IsTrue (((nat_eq a.width b.width && beq a.signed b.signed) && nat_eq a.ones b.ones) && nat_eq a.unknowns b.unknowns))
-same_is a b v w p q i j =
-    ((λ t. let e : (a.width ≡ b.width) × (a.signed ≡ b.signed) × (a.ones ≡ b.ones) × (a.unknowns ≡ b.unknowns) = grind (arith, nat_tests) in
-       sym p ∙ same_view a b e.0 e.1 e.2 e.3 ∙ q),
-     (λ t. let r : the_view a ≡ the_view b = p ∙ t ∙ sym q in
-       let e : a.width ≡ b.width = sym (length-planes a.width a.ones a.unknowns) ∙ ap (λ (x : Vector). length x.bits) r ∙ length-planes b.width b.ones b.unknowns in
-       let f : a.signed ≡ b.signed = ap (λ (x : Vector). x.signed) r in
-       let g : a.ones ≡ b.ones = sym (ones_word-planes a.width a.ones a.unknowns i.2) ∙ ap (λ (x : Vector). ones_word x.bits) r ∙ ones_word-planes b.width b.ones b.unknowns j.2 in
-       let h : a.unknowns ≡ b.unknowns = sym (unknowns_word-planes a.width a.ones a.unknowns i.3) ∙ ap (λ (x : Vector). unknowns_word x.bits) r ∙ unknowns_word-planes b.width b.ones b.unknowns j.3 in
-       grind (arith, nat_tests)))
+    (IsTrue (((nat_eq a.width b.width && beq a.signed b.signed) && nat_eq a.ones b.ones) && nat_eq a.unknowns b.unknowns) → v ≡ w) ×
+    (v ≡ w → IsTrue (((nat_eq a.width b.width && beq a.signed b.signed) && nat_eq a.ones b.ones) && nat_eq a.unknowns b.unknowns))
+same_is a b v w p q i j = (
+  (λ t. let e : (a.width ≡ b.width) × (a.signed ≡ b.signed) × (a.ones ≡ b.ones) × (a.unknowns ≡ b.unknowns) = grind (arith, nat_tests) in
+      sym p ∙ same_view a b e.0 e.1 e.2 e.3 ∙ q),
+  (λ t. let r : the_view a ≡ the_view b = p ∙ t ∙ sym q in
+      let e : a.width ≡ b.width = sym (length-planes a.width a.ones a.unknowns) ∙ ap (λ (x : Vector). length x.bits) r ∙ length-planes b.width b.ones b.unknowns in
+      let f : a.signed ≡ b.signed = ap (λ (x : Vector). x.signed) r in
+      let g : a.ones ≡ b.ones = sym (ones_word-planes a.width a.ones a.unknowns i.2) ∙ ap (λ (x : Vector). ones_word x.bits) r ∙ ones_word-planes b.width b.ones b.unknowns j.2 in
+      let h : a.unknowns ≡ b.unknowns = sym (unknowns_word-planes a.width a.ones a.unknowns i.3) ∙ ap (λ (x : Vector). unknowns_word x.bits) r ∙ unknowns_word-planes b.width b.ones b.unknowns j.3 in
+      grind (arith, nat_tests)),
+)

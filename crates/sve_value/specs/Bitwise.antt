@@ -1,4 +1,4 @@
--- Operators that go bit by bit (IEEE 1800-2017, 11.4.8): truth tables, and how a table goes over lists.
+-- Operators that go bit by bit: the truth tables of IEEE 1800-2017, 11.4.8, and how a table goes over lists.
 use Rattle.std.specs.Prelude.{List, [], ◌∷◌}
 use Rattle.sve_value.specs.declared.bit.Bit.{Bit}
 use Rattle.sve_value.specs.declared.bit.Bit.TheVariants.{Zero, One, X, Z}
@@ -11,39 +11,39 @@ row One when_0 when_1 when_x when_z = when_1
 row X when_0 when_1 when_x when_z = when_x
 row Z when_0 when_1 when_x when_z = when_z
 
--- `~`, Table 11-15
+-- `~`
 abbrev pub not_bit : Bit → Bit
 not_bit b = row b One Zero X X
 
--- `&`, Table 11-11
+-- `&`
 abbrev pub and_bit : Bit → Bit → Bit
 and_bit Zero b = row b Zero Zero Zero Zero
 and_bit One b = row b Zero One X X
 and_bit X b = row b Zero X X X
 and_bit Z b = row b Zero X X X
 
--- `|`, Table 11-12
+-- `|`
 abbrev pub or_bit : Bit → Bit → Bit
 or_bit Zero b = row b Zero One X X
 or_bit One b = row b One One One One
 or_bit X b = row b X One X X
 or_bit Z b = row b X One X X
 
--- `^`, Table 11-13
+-- `^`
 abbrev pub xor_bit : Bit → Bit → Bit
 xor_bit Zero b = row b Zero One X X
 xor_bit One b = row b One Zero X X
 xor_bit X b = row b X X X X
 xor_bit Z b = row b X X X X
 
--- `^~` and `~^`, Table 11-14
+-- `^~` and `~^`
 abbrev pub xnor_bit : Bit → Bit → Bit
 xnor_bit Zero b = row b One Zero X X
 xnor_bit One b = row b Zero One X X
 xnor_bit X b = row b X X X X
 xnor_bit Z b = row b X X X X
 
--- what `?:` makes of its two arms under an unknown condition, Table 11-20
+-- what `?:` makes of its two arms under an unknown condition (11.4.11)
 abbrev pub merge_bit : Bit → Bit → Bit
 merge_bit Zero b = row b Zero X X X
 merge_bit One b = row b X One X X

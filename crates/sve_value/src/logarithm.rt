@@ -1,4 +1,5 @@
 ghost use Rattle.std.specs.Prelude.{◌≡◌, ℕ, ◌<◌, ◌≤◌, ◌^◌, IfSome, length};
+ghost use Rattle.sve_value.specs.Numbers.{known_natural};
 ghost use Rattle.sve_value.specs.Arithmetic.{clog2_of, powers_below, IsCeilingOfLog};
 
 use crate::bit::Bit;
@@ -7,7 +8,8 @@ use crate::bits::Bits;
 /// `$clog2` (20.8.1): the ceiling of the logarithm to the base two, and 0 for 0, in 32 signed bits. The operand counts
 /// as unsigned; with an x or z bit in it the result is all x.
 pub fn clog2(a: Bits) -> Bits
-    ensures { result ≡ clog2_of a }
+    ensures value { result ≡ clog2_of a }
+    ensures least { IfSome (known_natural a) (λ n. IsCeilingOfLog n (powers_below n (length a.bits))) }
 {
     let width = a.width();
     match a.natural() {

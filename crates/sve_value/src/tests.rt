@@ -148,9 +148,9 @@ fn is_sized_by_context(op: Binary) -> bool {
     )
 }
 
-/// Sign, negation and reductions (11.4.3, 11.4.7 to 11.4.9).
+/// 11.4.3, 11.4.7 and 11.4.8.
 #[test]
-fn unary_operators(rt: HostRuntime) -> Result<(), Fail> {
+fn signs_and_negations(rt: HostRuntime) -> Result<(), Fail> {
     unary_rows(
         &rt,
         rt.alloc(),
@@ -189,6 +189,12 @@ fn unary_operators(rt: HostRuntime) -> Result<(), Fail> {
             4'b1xz0 1'd0
             4'sb000z 1'bx",
     )?;
+    Ok(())
+}
+
+/// 11.4.9.
+#[test]
+fn reductions(rt: HostRuntime) -> Result<(), Fail> {
     unary_rows(
         &rt,
         rt.alloc(),
@@ -339,7 +345,7 @@ fn powers(rt: HostRuntime) -> Result<(), Fail> {
     Ok(())
 }
 
-/// Tables 11-11 to 11-14.
+/// 11.4.8.
 #[test]
 fn bitwise_operators(rt: HostRuntime) -> Result<(), Fail> {
     binary_rows(
@@ -728,4 +734,26 @@ fn truths(rt: HostRuntime) -> Result<(), Fail> {
         expect_text(&rt, rt.alloc(), found, row, &mut words)?;
     }
     Ok(())
+}
+
+/// What a value gives to be read.
+#[test]
+fn parts_of_values(rt: HostRuntime) {
+    let a = value(&rt, "-8'sd4");
+    assert!(rt; a.width() == 8 && a.is_signed() && a.is_negative());
+    assert_eq!(rt; a.natural(), Some(252));
+    assert_eq!(rt; a.integer(), Some(-4));
+    assert_eq!(rt;
+        (a.bit(1), a.bit(2), a.leftmost()),
+        (Bit::Zero, Bit::One, Bit::One)
+    );
+    assert!(rt; !a.is_same(a.shift_in(Bit::Zero)));
+    assert!(rt; a.is_same(a.extend(16, true).extend(8, true)));
+    assert!(rt; !a.is_same(a.extend(8, false)));
+    assert_eq!(rt; value(&rt, "4'b1x00").natural(), None);
+    assert_eq!(rt; value(&rt, "64'd9223372036854775808").integer(), None);
+    assert_eq!(rt;
+        value(&rt, "-64'sd9223372036854775808").integer(),
+        Some(i64::MIN)
+    );
 }
