@@ -42,29 +42,30 @@ is_negative v = v.signed && is_one (leftmost v.bits)
 abbrev pub integer : Vector → ℤ
 integer v = if is_negative v then pos (natural v.bits) -ℤ pos (2 ^ length v.bits) else pos (natural v.bits)
 
--- the whole number of a sign and a size
-abbrev pub with_sign : Bool → ℕ → ℤ
-with_sign true size = neg_ℤ (pos size)
-with_sign false size = pos size
-
--- those numbers, where no bit is x or z
+-- no bit is x or z
 unfoldable pub are_known : List Bit → Bool
 are_known [] = true
 are_known (b ∷ bs) = is_known b && are_known bs
 
+-- those numbers, where every bit is known
 abbrev pub known_natural : Vector → Option ℕ
 known_natural v = if are_known v.bits then Some (natural v.bits) else None
 
 abbrev pub known_integer : Vector → Option ℤ
 known_integer v = if are_known v.bits then Some (integer v) else None
 
--- that whole number, where it lies in the range of 64 signed bits (own)
+-- a whole number in the range of 64 signed bits (own)
 abbrev pub is_short : ℤ → Bool
 is_short z = int_le (negsuc (2 ^ 63 - 1)) z && int_lt z (pos (2 ^ 63))
 
 abbrev pub short_integer : Option ℤ → Option ℤ
 short_integer (Some z) = if is_short z then Some z else None
 short_integer None = None
+
+-- the whole number of a sign and a size
+abbrev pub with_sign : Bool → ℕ → ℤ
+with_sign true size = neg_ℤ (pos size)
+with_sign false size = pos size
 
 -- the lowest digits of a number in base two
 unfoldable pub binary : ℕ → ℕ → List Bit
