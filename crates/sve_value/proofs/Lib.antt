@@ -1,0 +1,13 @@
+pub mod Words
+pub mod Views
+pub mod Places
+pub mod Gates
+pub mod Formulas
+pub mod Windows
+pub mod Folds
+pub mod Integers
+pub mod Logs
+pub mod Powers
+pub mod Texts
+pub mod Suited
+pub mod Widths

@@ -1,0 +1,12 @@
+pub mod Vector
+pub mod Alike
+pub mod Planes
+pub mod Back
+pub mod Bitwise
+pub mod Numbers
+pub mod Arithmetic
+pub mod Truths
+pub mod Relations
+pub mod Moves
+pub mod Operators
+pub mod Text
