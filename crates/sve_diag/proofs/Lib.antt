@@ -1,0 +1,2 @@
+mod CodesAreExact
+pub mod DiagsAreExact
