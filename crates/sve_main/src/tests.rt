@@ -62,6 +62,11 @@ fn sessions_give_their_reports(rt: HostRuntime) -> Result<(), Fail> {
             "history 3\n1 1 1\n2 1 2\n3 1 3\nclient 1\n1 accepted 1\n2 accepted 2\n3 accepted 3\n4 answer 3 2\nstamp 3 bytes 1\n|3\n5 answer 3 1\nnone\n6 answer 3 1\nnone\n",
         ),
         (
+            r#"{"files":[{"name":"b.sv","text":"wire b;\n"},{"name":"a.sv","text":""}],"clients":[[{"ask":"file","name":"a.sv"},{"commit":[{"put":"b.sv","text":"x"}]},{"ask":"file","name":"b.sv"},{"ask":"file","name":"a.sv"}]]}"#,
+            Status::Done,
+            "history 1\n1 1 2\nclient 1\n1 answer 0 2\nstamp 0 bytes 0\n|\n2 accepted 1\n3 answer 1 2\nstamp 1 bytes 1\n|x\n4 answer 1 2\nstamp 0 bytes 0\n|\n",
+        ),
+        (
             r#"{"files":[],"clients":[]}"#,
             Status::BadSession,
             "bad session: later\n",

@@ -1,5 +1,5 @@
 -- A session has one client, and no edit of it has a text above the limit.
-use Rattle.std.proofs.Common.{◌≡◌, ℕ, ◌&&◌, Bool, true, false, List, [], ◌∷◌, Option, Some, None, length, All, option_and_then, option_map, if◌then◌else◌, nat_le, codes, bytes_eq, refl, subst}
+use Rattle.std.proofs.Common.{◌≡◌, ℕ, ◌≤◌, ◌&&◌, Bool, true, false, List, [], ◌∷◌, Option, Some, None, length, All, option_and_then, option_map, if◌then◌else◌, nat_le, codes, bytes_eq, refl, subst}
 use Rattle.std.proofs.lemmas.Bool.{and_parts, leb-true, eqb-true}
 use Rattle.std.proofs.lemmas.List.Elements.{All-from_recursion}
 use Rattle.std.specs.List.{AllByRecursion}
@@ -10,14 +10,15 @@ use Rattle.sve_text.specs.declared.edit.Edit.{Edit}
 use Rattle.sve_text.specs.declared.edit.Edit.TheVariants.{Put}
 use Rattle.sve_text.specs.declared.edit.Mode.TheVariants.{Latest}
 use Rattle.sve_text.specs.declared.edit.TheConstants.{MAX_FILE_LEN}
-use Rattle.sve_text.specs.Files.{EditFits, EditsFit}
+use Rattle.sve_text.specs.Files.{EditFits, EditsFit, TextsFit}
 use Rattle.sve_script.specs.declared.commands.Script.{Script}
 use Rattle.sve_script.specs.declared.commands.Command.{Command}
 use Rattle.sve_script.specs.declared.commands.Command.TheVariants.{Commit, Ask}
 use Rattle.sve_script.specs.declared.commands.Query.TheVariants.{File}
 use Rattle.sve_script.specs.declared.commands.TheConstants.{MAX_EDITS}
 use Rattle.sve_script.specs.Shapes.{has_exactly, member_as, each_as}
-use Rattle.sve_script.specs.Session.{put_of, edit_with, edit_of, commit_of, commit_with, ask_of, ask_with, command_with, command_of, client_of, is_in_limits, script_with_clients, no_files, script_with, IsSession}
+use Rattle.sve_script.specs.Session.{put_of, edit_with, edit_of, commit_of, commit_with, ask_of, ask_with, command_with, command_of, client_of, is_in_limits, script_from, file_of, file_with, opening_file_of, script_with, IsSession}
+use Rattle.sve_script.specs.Distinct.{have_distinct_names}
 use Rattle.sve_script.specs.Fits.{CommandFits, ClientsFit}
 
 -- what holds of each thing that is given holds of what a chain gives
@@ -42,11 +43,21 @@ each_fits P taken one (item d ds) xs e = at_first (taken d) refl (λ ys e. each_
     at_first None is rest e = absurd (cc)
     at_first (Some x) is rest e = mapped P x (each_as taken ds) xs (one d x is) rest e
 
+abbrev FileFits : List ℕ × List ℕ → Type 0
+FileFits file = length file.1 ≤ MAX_FILE_LEN
+
+named_fits : (name text : List ℕ) (f : List ℕ × List ℕ) → file_of name text ≡ Some f → FileFits f
+named_fits name text f is =
+    let p = passed (is_file_name_of name && nat_le (length text) MAX_FILE_LEN) (Some (name, text)) f is in
+    let same : (name, text) ≡ f = cc (p.1) in
+    subst FileFits same (leb-true (length text) MAX_FILE_LEN (and_parts (is_file_name_of name) (nat_le (length text) MAX_FILE_LEN) p.0).1)
+
 put_fits : (name text : List ℕ) (e : Edit) → put_of name text ≡ Some e → EditFits e
-put_fits name text e is =
-    let p = passed (is_file_name_of name && nat_le (length text) MAX_FILE_LEN) (Some (Put name text)) e is in
-    let same : Put name text ≡ e = cc (p.1) in
-    subst EditFits same (leb-true (length text) MAX_FILE_LEN (and_parts (is_file_name_of name) (nat_le (length text) MAX_FILE_LEN) p.0).1)
+put_fits name text e is = at_file (file_of name text) (λ f e. named_fits name text f e) is
+  where
+    at_file : (o : Option (List ℕ × List ℕ)) → ((f : List ℕ × List ℕ) → o ≡ Some f → FileFits f) → option_map (λ f. Put f.0 f.1) o ≡ Some e → EditFits e
+    at_file None fits is = absurd (cc)
+    at_file (Some f) fits is = subst EditFits (let same : Put f.0 f.1 ≡ e = cc in same) (fits f refl)
 
 edit_fits : (d : Data) (e : Edit) → edit_of d ≡ Some e → EditFits e
 edit_fits d e is = chained EditFits edit_with (λ ms e is. members_fit ms e (passed (has_exactly (codes "put" ∷ codes "text" ∷ []) ms) _ e is).1) (as_object d) e is
@@ -94,25 +105,36 @@ clients_fit ds css is = All-from_recursion (All CommandFits) css (each_fits (All
 abbrev Fitting : Script → Type 0
 Fitting script = (length script.clients ≡ 1) × ClientsFit script.clients
 
-with_clients : (css : List (List Command)) (script : Script) → ClientsFit css → script_with_clients css ≡ Some script → Fitting script
-with_clients css script fits is =
-    let p = passed (is_in_limits css) _ script is in
-    let limits = and_parts _ _ (and_parts _ _ p.0).0 in
+with_clients : (files : List (List ℕ × List ℕ)) (css : List (List Command)) (script : Script) → ClientsFit css → script_from files css ≡ Some script → Fitting script
+with_clients files css script fits is =
+    let p = passed (have_distinct_names files && is_in_limits files css) _ script is in
+    let limits = and_parts _ _ (and_parts _ _ (and_parts (have_distinct_names files) (is_in_limits files css) p.0).1).0 in
     let same : css ≡ script.clients = cc (p.1) in
     subst (λ (c : List (List Command)). (length c ≡ 1) × ClientsFit c) same (eqb-true (length css) 1 limits.0, fits)
 
-at_clients : (o : Option (List (List Command))) (script : Script) → ((css : List (List Command)) → o ≡ Some css → ClientsFit css) → option_and_then script_with_clients o ≡ Some script → Fitting script
-at_clients None script fits e = absurd (cc)
-at_clients (Some css) script fits e = with_clients css script (fits css refl) e
+at_clients : (files : List (List ℕ × List ℕ)) (o : Option (List (List Command))) (script : Script) → ((css : List (List Command)) → o ≡ Some css → ClientsFit css) → option_and_then (script_from files) o ≡ Some script → Fitting script
+at_clients files None script fits e = absurd (cc)
+at_clients files (Some css) script fits e = with_clients files css script (fits css refl) e
 
 with_members : (ms : Members) (script : Script) → script_with ms ≡ Some script → Fitting script
 with_members ms script is =
     chained Fitting _
     (λ files script is.
-    at_clients (option_and_then (each_as client_of) (member_as as_array (codes "clients") ms)) script
+    at_clients files (option_and_then (each_as client_of) (member_as as_array (codes "clients") ms)) script
     (λ css e. chained ClientsFit (each_as client_of) clients_fit (member_as as_array (codes "clients") ms) css e)
-    (passed (no_files files) _ script is).1)
-    (member_as as_array (codes "files") ms) script (passed (has_exactly (codes "files" ∷ codes "clients" ∷ []) ms) _ script is).1
+    is)
+    (option_and_then (each_as opening_file_of) (member_as as_array (codes "files") ms)) script (passed (has_exactly (codes "files" ∷ codes "clients" ∷ []) ms) _ script is).1
 
 pub session_fits : (bytes : List ℕ) (script : Script) → IsSession bytes script → (length script.clients ≡ 1) × ClientsFit script.clients
 session_fits bytes script session = chained Fitting script_with with_members (as_object session.0) script session.2
+
+-- ---- opening files
+
+file_fits : (d : Data) (f : List ℕ × List ℕ) → opening_file_of d ≡ Some f → FileFits f
+file_fits d f is = chained FileFits file_with (λ ms f is. members_fit ms f (passed (has_exactly (codes "name" ∷ codes "text" ∷ []) ms) _ f is).1) (as_object d) f is
+  where
+    members_fit : (ms : Members) (f : List ℕ × List ℕ) → option_and_then (λ name. option_and_then (file_of name) (member_as as_str (codes "text") ms)) (member_as as_str (codes "name") ms) ≡ Some f → FileFits f
+    members_fit ms f is = chained FileFits _ (λ name f is. chained FileFits (file_of name) (named_fits name) (member_as as_str (codes "text") ms) f is) (member_as as_str (codes "name") ms) f is
+
+pub opening_files_fit : (ds : Items) (fs : List (List ℕ × List ℕ)) → each_as opening_file_of ds ≡ Some fs → TextsFit fs
+opening_files_fit ds fs is = All-from_recursion FileFits fs (each_fits FileFits opening_file_of file_fits ds fs is)

@@ -1,3 +1,4 @@
+pub mod DistinctNames
 pub mod EachItem
 pub mod ManyMembers
 pub mod Readings

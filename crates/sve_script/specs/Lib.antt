@@ -1,4 +1,5 @@
 pub mod Shapes
+pub mod Distinct
 pub mod Session
 pub mod OneReading
 pub mod Fits

@@ -1,6 +1,6 @@
 -- The session that bytes are, over the value that they have as JSON (own).
-use Rattle.std.specs.Prelude.{ℕ, ◌≡◌, ◌&&◌, ◌==◌, Bool, true, false, List, [], ◌∷◌, Option, Some, None, length, sum_by, nat_le, option_and_then, if◌then◌else◌, IsUtf8, codes, bytes_eq}
-use Rattle.serde_json.specs.Data.{Data, Items, no_items, item, Members}
+use Rattle.std.specs.Prelude.{ℕ, ◌≡◌, ◌+◌, ◌&&◌, ◌==◌, Bool, List, [], ◌∷◌, Option, Some, None, length, sum_by, nat_le, option_and_then, option_map, if◌then◌else◌, IsUtf8, codes, bytes_eq}
+use Rattle.serde_json.specs.Data.{Data, Members}
 use Rattle.serde_json.specs.Find.{as_str, as_array, as_object}
 use Rattle.serde_json.specs.Read.{read}
 use Rattle.sve_bytes.specs.FileName.{is_file_name_of}
@@ -9,6 +9,7 @@ use Rattle.sve_text.specs.declared.edit.Edit.TheVariants.{Put}
 use Rattle.sve_text.specs.declared.edit.Mode.TheVariants.{Latest}
 use Rattle.sve_text.specs.declared.edit.TheConstants.{MAX_FILE_LEN}
 use Rattle.sve_text.specs.Files.{opening_files}
+use Rattle.sve_script.specs.Distinct.{have_distinct_names}
 use Rattle.sve_script.specs.Shapes.{has_exactly, member_as, each_as}
 use Rattle.sve_script.specs.declared.commands.Script.{Script}
 use Rattle.sve_script.specs.declared.commands.Command.{Command}
@@ -20,9 +21,13 @@ use Rattle.sve_script.specs.declared.commands.TheConstants.{MAX_COMMANDS, MAX_ED
 abbrev pub IsJson : List ℕ → Data → Type 0
 IsJson bytes value = IsUtf8 bytes × (read bytes ≡ Some value)
 
+-- a file of this name and text
+abbrev pub file_of : List ℕ → List ℕ → Option (List ℕ × List ℕ)
+file_of name text = if is_file_name_of name && nat_le (length text) MAX_FILE_LEN then Some (name, text) else None
+
 -- `{"put": name, "text": text}`
 abbrev pub put_of : List ℕ → List ℕ → Option Edit
-put_of name text = if is_file_name_of name && nat_le (length text) MAX_FILE_LEN then Some (Put name text) else None
+put_of name text = option_map (λ file. Put file.0 file.1) (file_of name text)
 
 abbrev pub edit_with : Members → Option Edit
 edit_with members =
@@ -65,23 +70,29 @@ abbrev pub edit_count : Command → ℕ
 edit_count (Commit edits) = length edits
 edit_count (Ask query mode budget) = 0
 
--- one client, and no more commands and edits than a session may have
-abbrev pub is_in_limits : List (List Command) → Bool
-is_in_limits clients = length clients == 1 && nat_le (sum_by length clients) MAX_COMMANDS && nat_le (sum_by (sum_by edit_count) clients) MAX_FILES
+-- `{"name": name, "text": text}`, a file before the first commit
+abbrev pub file_with : Members → Option (List ℕ × List ℕ)
+file_with members =
+    if has_exactly (codes "name" ∷ codes "text" ∷ []) members
+    then option_and_then (λ name. option_and_then (file_of name) (member_as as_str (codes "text") members)) (member_as as_str (codes "name") members)
+    else None
 
--- no file stands before the first commit
-abbrev pub script_with_clients : List (List Command) → Option Script
-script_with_clients clients = if is_in_limits clients then Some (record { files = opening_files []; clients = clients }) else None
+abbrev pub opening_file_of : Data → Option (List ℕ × List ℕ)
+opening_file_of value = option_and_then file_with (as_object value)
 
-abbrev pub no_files : Items → Bool
-no_files no_items = true
-no_files (item file rest) = false
+-- one client, and no more commands, and no more opening files and edits together, than a session may have
+abbrev pub is_in_limits : List (List ℕ × List ℕ) → List (List Command) → Bool
+is_in_limits files clients = length clients == 1 && nat_le (sum_by length clients) MAX_COMMANDS && nat_le (length files + sum_by (sum_by edit_count) clients) MAX_FILES
 
--- `{"files": [], "clients": [[command, ..]]}`
+-- the session with these opening files, of which no two have one name, and these clients
+abbrev pub script_from : List (List ℕ × List ℕ) → List (List Command) → Option Script
+script_from files clients = if have_distinct_names files && is_in_limits files clients then Some (record { files = opening_files files; clients = clients }) else None
+
+-- `{"files": [file, ..], "clients": [[command, ..]]}`
 abbrev pub script_with : Members → Option Script
 script_with members =
     if has_exactly (codes "files" ∷ codes "clients" ∷ []) members
-    then option_and_then (λ files. if no_files files then option_and_then script_with_clients (option_and_then (each_as client_of) (member_as as_array (codes "clients") members)) else None) (member_as as_array (codes "files") members)
+    then option_and_then (λ files. option_and_then (script_from files) (option_and_then (each_as client_of) (member_as as_array (codes "clients") members))) (option_and_then (each_as opening_file_of) (member_as as_array (codes "files") members))
     else None
 
 abbrev pub script_of : Data → Option Script

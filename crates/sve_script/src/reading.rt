@@ -1,15 +1,18 @@
 //! Reading a session: one function for each part of its form, over the value that the bytes have as JSON.
-ghost use Rattle.std.specs.Prelude.{◌≡◌, Some, None, if◌then◌else◌, IfOk, IsErrOf, length, nat_le, sum_by};
+ghost use Rattle.std.specs.Prelude.{◌≡◌, ◌+◌, Some, None, if◌then◌else◌, IfOk, IsErrOf, length, nat_le, sum_by};
 ghost use Rattle.serde_json.specs.View.{view, items_view, members_view};
 ghost use Rattle.sve_bytes.specs.FileName.{is_file_name_of};
 ghost use Rattle.sve_script.specs.Shapes.{each_as};
+ghost use Rattle.sve_text.specs.Files.{TextsFit};
+ghost use Rattle.sve_script.specs.Distinct.{have_distinct_names};
 ghost use Rattle.sve_script.specs.Fits.{ClientsFit};
-ghost use Rattle.sve_script.specs.Session.{IsSession, IsLater, IsNotJson, put_of, edit_with, edit_of, commit_with, ask_with, command_with, command_of, client_of, edit_count, is_in_limits, no_files, script_with, script_of};
+ghost use Rattle.sve_script.specs.Session.{IsSession, IsLater, IsNotJson, put_of, edit_with, edit_of, commit_with, ask_with, command_with, command_of, client_of, edit_count, file_of, opening_file_of, is_in_limits, script_from, script_with, script_of};
 
 use crate::commands::{BadSession, Command, MAX_COMMANDS, MAX_EDITS, MAX_FILES, Query, Script};
 use crate::member::{Object, has_both, has_only, items_under, text_under};
 use serde_json::Value;
 use std::alloc::{AllocError, Global};
+use std::collections::BTreeSet;
 use sve_bytes::{BadName, List, Name, is_file_name};
 use sve_text::{Edit, Files, MAX_FILE_LEN, Mode};
 
@@ -31,9 +34,9 @@ fn file_name(alloc: Global, bytes: &[u8]) -> Taken<Name>
     }
 }
 
-/// The edit `{"put": name, "text": text}`. The text is copied once, from the string to the edit.
-fn put(alloc: Global, name: &str, text: &str) -> Taken<Edit>
-    ensures { IfOk result (λ o. o ≡ put_of name.now text.now) }
+/// A file of this name and text. The text is copied once, from the string to the file.
+fn file(alloc: Global, name: &str, text: &str) -> Taken<(Name, List<u8>)>
+    ensures { IfOk result (λ o. o ≡ file_of name.now text.now) }
 {
     if text.len() > MAX_FILE_LEN {
         return Ok(None);
@@ -42,7 +45,17 @@ fn put(alloc: Global, name: &str, text: &str) -> Taken<Edit>
         return Ok(None);
     };
     let text = List::of(Vec::from_slice(alloc, text.as_bytes())?);
-    Ok(Some(Edit::Put { name, text }))
+    Ok(Some((name, text)))
+}
+
+/// The edit `{"put": name, "text": text}`.
+fn put(alloc: Global, name: &str, text: &str) -> Taken<Edit>
+    ensures { IfOk result (λ o. o ≡ put_of name.now text.now) }
+{
+    match file(alloc, name, text)? {
+        Some((name, text)) => Ok(Some(Edit::Put { name, text })),
+        None => Ok(None),
+    }
 }
 
 /// One edit of a commit.
@@ -143,7 +156,7 @@ fn client(alloc: Global, value: &Value) -> Taken<List<Command>>
 }
 
 /// The commands of each client, client 1 first.
-fn clients(alloc: Global, items: &[Value]) -> Taken<List<List<Command>>>
+fn clients_in(alloc: Global, items: &[Value]) -> Taken<List<List<Command>>>
     ensures { IfOk result (λ o. o ≡ each_as client_of (items_view items.now)) }
 {
     let mut clients = Vec::new(alloc);
@@ -166,11 +179,14 @@ fn count_edits(command: &Command) -> usize
     }
 }
 
-/// Whether the commands have together no more edits than a session may have files.
-fn has_few_edits(commands: &[Command]) -> bool
-    ensures { result ≡ nat_le (sum_by edit_count commands.now) MAX_FILES }
+/// Whether the commands have together no more edits, beside so many opening files, than a session may have files.
+fn has_few_edits(files: usize, commands: &[Command]) -> bool
+    ensures { result ≡ nat_le (files + sum_by edit_count commands.now) MAX_FILES }
 {
-    let mut left = MAX_FILES;
+    if files > MAX_FILES {
+        return false;
+    }
+    let mut left = MAX_FILES - files;
     for command in commands {
         let count = count_edits(command);
         if count > left {
@@ -181,21 +197,47 @@ fn has_few_edits(commands: &[Command]) -> bool
     true
 }
 
-/// Whether there is one client, with no more commands and edits than a session may have.
-fn are_in_limits(clients: &[List<Command>]) -> bool
-    ensures { result ≡ is_in_limits clients.now }
+/// Whether there is one client, with no more commands, and no more edits beside so many opening files, than a session
+/// may have.
+fn are_in_limits(files: &[(Name, List<u8>)], clients: &[List<Command>]) -> bool
+    ensures { result ≡ is_in_limits files.now clients.now }
 {
     match clients {
-        [client] => client.items().len() <= MAX_COMMANDS && has_few_edits(client.items()),
+        [client] => {
+            client.items().len() <= MAX_COMMANDS && has_few_edits(files.len(), client.items())
+        }
         _ => false,
     }
 }
 
-/// Whether there is no file before the first commit.
-fn is_without_files(files: &[Value]) -> bool
-    ensures { result ≡ no_files (items_view files.now) }
+/// One file before the first commit.
+fn opening_file(alloc: Global, value: &Value) -> Taken<(Name, List<u8>)>
+    ensures { IfOk result (λ o. o ≡ opening_file_of (view value.now)) }
 {
-    files.is_empty()
+    let Some(members) = value.as_object() else {
+        return Ok(None);
+    };
+    if !has_both(members, "name", "text") {
+        return Ok(None);
+    }
+    match (text_under(members, "name"), text_under(members, "text")) {
+        (Some(name), Some(text)) => file(alloc, name, text),
+        _ => Ok(None),
+    }
+}
+
+/// Files before the first commit, in their order.
+fn opening_files(alloc: Global, items: &[Value]) -> Taken<List<(Name, List<u8>)>>
+    ensures { IfOk result (λ o. o ≡ each_as opening_file_of (items_view items.now)) }
+{
+    let mut files = Vec::new(alloc);
+    for item in items {
+        match opening_file(alloc, item)? {
+            Some(file) => files.push(file)?,
+            None => return Ok(None),
+        }
+    }
+    Ok(Some(List::of(files)))
 }
 
 /// The session with these members.
@@ -205,22 +247,50 @@ fn session_with(alloc: Global, members: &Object) -> Taken<Script>
     if !has_both(members, "files", "clients") {
         return Ok(None);
     }
-    let (Some(files), Some(items)) = (
+    let (Some(files), Some(clients)) = (
         items_under(members, "files"),
         items_under(members, "clients"),
     ) else {
         return Ok(None);
     };
-    if !is_without_files(files) {
+    let Some(files) = opening_files(alloc, files)? else {
+        return Ok(None);
+    };
+    let Some(clients) = clients_in(alloc, clients)? else {
+        return Ok(None);
+    };
+    session_from(alloc, files, clients)
+}
+
+/// The session with these opening files and clients.
+fn session_from(
+    alloc: Global,
+    files: List<(Name, List<u8>)>,
+    clients: List<List<Command>>,
+) -> Taken<Script>
+    requires { TextsFit files }
+    ensures { IfOk result (λ o. o ≡ script_from files clients) }
+{
+    if !are_distinct(alloc, files.items())? || !are_in_limits(files.items(), clients.items()) {
         return Ok(None);
     }
-    match clients(alloc, items)? {
-        Some(clients) if are_in_limits(clients.items()) => Ok(Some(Script {
-            files: Files::of(alloc, Vec::new(alloc))?,
-            clients,
-        })),
-        _ => Ok(None),
+    Ok(Some(Script {
+        files: Files::of(alloc, files.into_vec())?,
+        clients,
+    }))
+}
+
+/// Whether no two files have one name.
+fn are_distinct(alloc: Global, files: &[(Name, List<u8>)]) -> Result<bool, AllocError>
+    ensures { IfOk result (λ are. are ≡ have_distinct_names files.now) }
+{
+    let mut seen = BTreeSet::new(alloc);
+    for file in files {
+        if !seen.insert(file.0.copy()?)? {
+            return Ok(false);
+        }
     }
+    Ok(true)
 }
 
 /// The session that a value is.

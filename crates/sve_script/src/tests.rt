@@ -2,6 +2,7 @@ use crate::{BadSession, Command, Query, Script, bytes_have_one_reading, script};
 use std::alloc::{AllocError, Global};
 use std::process::Abort;
 use std::test::Fail;
+use sve_bytes::Name;
 use sve_text::{Edit, Mode};
 
 /// Sessions, and what `written` writes of each.
@@ -54,7 +55,7 @@ const NO_SESSIONS: [&str; 24] = [
     "{\"files\":{},\"clients\":[[]]}",
     "{\"files\":\"\",\"clients\":[[]]}",
     "{\"files\":[1],\"clients\":[[]]}",
-    "{\"files\":[{\"name\":\"a.sv\",\"text\":\"\"}],\"clients\":[[]]}",
+    "{\"files\":[{\"name\":\"a.sv\"}],\"clients\":[[]]}",
     "{\"files\":[],\"files\":[1],\"clients\":[[]]}",
     "{\"files\":[],\"clients\":null}",
     "{\"files\":[],\"clients\":{}}",
@@ -118,6 +119,24 @@ const NO_EDITS: [&str; 18] = [
     "{\"put\":\"a\",\"text\":\"\"},1",
 ];
 
+/// Values where an opening file is looked for.
+const NO_FILES: [&str; 14] = [
+    "null",
+    "1",
+    "\"a\"",
+    "[]",
+    "{}",
+    "{\"name\":\"a\"}",
+    "{\"text\":\"\"}",
+    "{\"put\":\"a\",\"text\":\"\"}",
+    "{\"name\":\"a\",\"text\":\"\",\"stamp\":0}",
+    "{\"name\":1,\"text\":\"\"}",
+    "{\"name\":\"a\",\"text\":1}",
+    "{\"name\":\"a\",\"text\":null}",
+    "{\"name\":\"a\",\"text\":\"\"},{\"name\":\"a\",\"text\":\"\"}",
+    "{\"name\":\"b\",\"text\":\"\"},{\"name\":\"a\",\"text\":\"\"},{\"name\":\"b\",\"text\":\"x\"}",
+];
+
 /// Strings that name no file, as they stand between their quotes.
 const NO_FILE_NAMES: [&str; 17] = [
     "", " ", "a b", "a\\\\b", "a:b", "a\\n", "a\\u0000", "a\\u00e9", "a\u{e9}", "a~", "a@", "a[",
@@ -164,7 +183,37 @@ const NO_JSON: [&str; 35] = [
 ];
 
 /// What a session has at most: the parts that `repeated` takes, and how often.
-const LIMITS: [(&str, [&str; 4], usize); 6] = [
+const LIMITS: [(&str, [&str; 4], usize); 9] = [
+    (
+        "edits beside an opening file",
+        [
+            "{\"files\":[{\"name\":\"a\",\"text\":\"\"}],\"clients\":[[",
+            "{\"commit\":[{\"put\":\"a\",\"text\":\"\"}]}",
+            ",",
+            "]]}",
+        ],
+        2_047,
+    ),
+    (
+        "bytes of an opening file",
+        [
+            "{\"files\":[{\"name\":\"a\",\"text\":\"",
+            "x",
+            "",
+            "\"}],\"clients\":[[]]}",
+        ],
+        1_048_576,
+    ),
+    (
+        "bytes of an opening file's name",
+        [
+            "{\"files\":[{\"text\":\"\",\"name\":\"",
+            "n",
+            "",
+            "\"}],\"clients\":[[]]}",
+        ],
+        255,
+    ),
     (
         "commands",
         [
@@ -320,6 +369,7 @@ fn reads_sessions(rt: HostRuntime) -> Result<(), Fail> {
 #[test]
 fn refuses_other_forms(rt: HostRuntime) -> Result<(), Fail> {
     let command = ["{\"files\":[],\"clients\":[[", "]]}"];
+    let file = ["{\"files\":[", "],\"clients\":[[]]}"];
     let edit = ["{\"files\":[],\"clients\":[[{\"commit\":[", "]}]]}"];
     let name = [
         "{\"files\":[],\"clients\":[[{\"commit\":[{\"put\":\"",
@@ -327,6 +377,7 @@ fn refuses_other_forms(rt: HostRuntime) -> Result<(), Fail> {
     ];
     assert_refused(&rt, rt.alloc(), &NO_SESSIONS, ["", ""], BadSession::Later)?;
     assert_refused(&rt, rt.alloc(), &NO_COMMANDS, command, BadSession::Later)?;
+    assert_refused(&rt, rt.alloc(), &NO_FILES, file, BadSession::Later)?;
     assert_refused(&rt, rt.alloc(), &NO_EDITS, edit, BadSession::Later)?;
     assert_refused(&rt, rt.alloc(), &NO_FILE_NAMES, name, BadSession::Later)?;
     Ok(())
@@ -381,6 +432,33 @@ fn reads_127_levels(rt: HostRuntime) -> Result<(), Fail> {
             Some(why),
             "at {levels} levels"
         );
+    }
+    Ok(())
+}
+
+#[test]
+fn opens_files(rt: HostRuntime) -> Result<(), Fail> {
+    let session =
+        "{\"clients\":[[]],\"files\":[{\"name\":\"top.sv\",\"text\":\"module top;\\nendmodule\"},{\"text\":\"\",\"name\":\"a/b.svh\"},{\"name\":\"Z\",\"text\":\"\\u00e9\"}]}";
+    let found = script(rt.alloc(), session.as_bytes())?;
+    let table = [
+        ("top.sv", Some("module top;\nendmodule")),
+        ("a/b.svh", Some("")),
+        ("Z", Some("\u{e9}")),
+        ("z", None),
+        ("top", None),
+    ];
+    for (name, text) in table {
+        let name = Name::of(rt.alloc(), name.as_bytes())?;
+        assert_eq!(rt; found.files.stamp(&name), 0);
+        match (found.files.text(&name), text) {
+            (Some(piece), Some(text)) => {
+                let bytes = piece.copy(rt.alloc())?;
+                assert_eq!(rt; bytes.as_slice(), text.as_bytes());
+            }
+            (None, None) => {}
+            _ => assert!(rt; false, "{text:?}"),
+        }
     }
     Ok(())
 }
