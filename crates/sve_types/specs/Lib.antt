@@ -1,0 +1,10 @@
+pub mod DataType
+pub mod Codes
+pub mod View
+pub mod Falls
+pub mod Dimensions
+pub mod Widths
+pub mod States
+pub mod Signs
+pub mod Equivalence
+pub mod TypeText
