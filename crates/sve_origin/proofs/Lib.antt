@@ -1,0 +1,4 @@
+pub mod Marks
+pub mod Growth
+pub mod Spots
+pub mod Covers
