@@ -1,0 +1,2 @@
+mod EachKeyword
+mod SpelledSo

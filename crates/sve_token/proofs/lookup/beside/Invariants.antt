@@ -1,0 +1,6 @@
+use Rattle.std.proofs.Common.{◌≡◌, drop}
+use Rattle.sve_token.specs.Keywords.{spelled_so}
+use Rattle.sve_token.proofs.lookup.beside.Given as goal
+
+abbrev pub invariant-loop-i : goal.invariant-loop-i
+invariant-loop-i l = spelled_so (drop l.i l.keywords) l.bytes ≡ spelled_so l.keywords l.bytes

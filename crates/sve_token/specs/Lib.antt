@@ -1,0 +1,3 @@
+pub mod KeywordText
+pub mod Keywords
+pub mod Operators
