@@ -5,6 +5,7 @@
 // tell only how often they failed.
 #![tactic(auto)]
 
+mod halt;
 mod memory_sink;
 mod memory_source;
 mod reading;
@@ -12,6 +13,7 @@ mod standard;
 mod sure_source;
 mod writing;
 
+pub use halt::Halt;
 pub use memory_sink::MemSink;
 pub use memory_source::MemSource;
 pub use reading::{Got, Source};

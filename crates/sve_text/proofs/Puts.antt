@@ -91,3 +91,7 @@ text_of_in_limit_by Greater row rest p h = h
 pub text_of_in_limit : (rows : List Row) (name : List ℕ) → RowsFit rows → IfSome (text_of rows name) IsInLimit
 text_of_in_limit [] name fit = tt
 text_of_in_limit (row ∷ rows) name fit = text_of_in_limit_by (name_cmp name row.name) row (row_of rows name) fit.0 (text_of_in_limit rows name fit.1)
+
+-- the text of a row that is found is in the limit
+pub found_in_limit : (rows : List Row) (name text : List ℕ) → RowsFit rows → text_of rows name ≡ Some text → IsInLimit text
+found_in_limit rows name text fit e = rw e at (text_of_in_limit rows name fit)

@@ -1,4 +1,5 @@
-ghost use Rattle.std.specs.Prelude.{◌≡◌, IfOk, IfSome};
+ghost use Rattle.std.specs.Prelude.{◌≡◌, IfOk, IfSome, option_map};
+ghost use Rattle.std.specs.Arc.{arc_value};
 ghost use Rattle.sve_text.specs.Rows.{text_of, stamp_of, IsInLimit};
 ghost use Rattle.sve_text.specs.Files.{opening_files, HaveDistinctNames, TextsFit};
 
@@ -66,6 +67,23 @@ impl Files {
         match &row.text {
             Some(text) => Some(Piece::of(text.items())),
             None => None,
+        }
+    }
+
+    /// The text of a file, shared with the files and not copied, or `None` where no file of that name is there.
+    ///
+    /// # Errors
+    /// Only for want of memory.
+    pub fn shared_text(&self, name: &Name) -> Result<Option<Arc<List<u8>>>, NoMemory>
+        ensures text { IfOk result (λ text. option_map arc_value text ≡ text_of self.now.rows name.now) }
+        ensures in_limit { IfOk result (λ text. IfSome text (λ shared. IsInLimit (arc_value shared))) }
+    {
+        let Some(row) = self.tree.find(name) else {
+            return Ok(None);
+        };
+        match &row.text {
+            Some(text) => Ok(Some(Arc::try_clone(text)?)),
+            None => Ok(None),
         }
     }
 
