@@ -1,0 +1,13 @@
+pub mod Told
+pub mod State
+pub mod Conditionals
+pub mod Uses
+pub mod Includes
+pub mod Step
+pub mod Expansion
+pub mod Halts
+pub mod View
+pub mod Reading
+pub mod Answer
+pub mod Under
+pub mod Larger

@@ -1,0 +1,22 @@
+//! The preprocessor: a file and what it includes become one expanded text (IEEE 1800-2017, clause 22).
+#![tactic(auto)]
+
+mod advance;
+mod condition;
+mod conditionals;
+mod directives;
+mod include;
+mod laws;
+mod start;
+mod texts;
+mod uses;
+mod work;
+
+pub use laws::done_alike;
+pub use start::prep;
+pub use sve_io::Halt;
+pub use sve_origin::{Expanded, Segment};
+pub use texts::Texts;
+
+#[cfg(test)]
+mod tests;
