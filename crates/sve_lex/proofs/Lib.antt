@@ -1,0 +1,11 @@
+mod Cutting
+mod Dispatch
+mod Longest
+mod Numbers
+mod OneList
+mod Pieces
+mod Runs
+mod Spots
+mod Strings
+mod Tables
+mod TokenSteps

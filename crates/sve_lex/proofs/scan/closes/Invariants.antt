@@ -1,0 +1,8 @@
+use Rattle.std.proofs.Common.{◌≡◌, drop, false}
+use Rattle.sve_lex.specs.Longest.{longest}
+use Rattle.sve_lex.specs.Classes.{closes}
+use Rattle.sve_lex.specs.Shift.{further}
+use Rattle.sve_lex.proofs.scan.closes.Given as goal
+
+abbrev pub invariant-bytes : goal.invariant-bytes
+invariant-bytes l = further l.i (longest (drop l.i l.rest) (closes l.close l.star)) ≡ longest l.rest (closes l.close false)
