@@ -1,0 +1,12 @@
+pub mod Begins
+pub mod Forward
+pub mod Loops
+pub mod Idle
+pub mod Runs
+pub mod Spelled
+pub mod Unique
+pub mod StartsOfExpressions
+pub mod StartsOfTypes
+pub mod StartsOfStatements
+pub mod StartsOfItems
+pub mod Levels

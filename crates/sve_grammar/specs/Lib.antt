@@ -1,0 +1,12 @@
+pub mod Token
+pub mod Rule
+pub mod Expressions
+pub mod Types
+pub mod Declarations
+pub mod Statements
+pub mod Items
+pub mod Grammar
+pub mod Machine
+pub mod Reading
+pub mod Gives
+pub mod Meaning
