@@ -1,0 +1,538 @@
+use crate::word::{
+    BinaryOperator, ImplicationOperator, IntegerKeyword, ScopedName, Sign, UnaryOperator, Word,
+};
+
+/// An expression (IEEE 1800-2017, clause 11, A.8.3 and A.8.4). Each number of a token is that within its chunk, from 0.
+#[cycle(expression)]
+#[derive(Drop)]
+pub enum Expr {
+    /// A decimal number by itself: `12` (5.7.1).
+    Decimal {
+        /// The number.
+        token: u32,
+    },
+    /// A based number with its size: `8'hff` (5.7.1).
+    Sized {
+        /// The size in bits.
+        size: u32,
+        /// The base and the digits.
+        based: u32,
+    },
+    /// A cast to a size given by a number: `8'(e)` (6.24.1).
+    SizeCast {
+        /// The size in bits.
+        size: u32,
+        /// What is cast.
+        cast: Cast,
+    },
+    /// A based number without a size: `'hff` (5.7.1).
+    Based {
+        /// The base and the digits.
+        token: u32,
+    },
+    /// A bit that fills its context: `'0` (5.7.1).
+    Unbased {
+        /// The apostrophe and the bit.
+        token: u32,
+    },
+    /// A string literal (5.9).
+    Text {
+        /// The literal.
+        token: u32,
+    },
+    /// An expression in parentheses.
+    Parenthesized {
+        /// The parentheses and the expression.
+        inner: Parenthesized,
+    },
+    /// A cast to a size given by an expression: `(e)'(f)` (6.24.1).
+    ParenthesizedCast {
+        /// The size in bits.
+        size: Parenthesized,
+        /// What is cast.
+        cast: Cast,
+    },
+    /// An assignment pattern: `'{1, 2}` (10.9).
+    Pattern {
+        /// The pattern.
+        pattern: Pattern,
+    },
+    /// A replication: `{n{a, b}}` (11.4.12.1).
+    Replication {
+        /// `{`.
+        opening: u32,
+        /// How often.
+        count: Box<Expr>,
+        /// The inner `{`.
+        inner_opening: u32,
+        /// The first of what is repeated.
+        first: Box<Expr>,
+        /// The others.
+        others: Vec<NextExpression>,
+        /// The inner `}`.
+        inner_closing: u32,
+        /// `}`.
+        closing: u32,
+        /// Selects of its bits.
+        selects: Vec<RangeSelect>,
+    },
+    /// A concatenation: `{a, b}` (11.4.12).
+    Concatenation {
+        /// `{`.
+        opening: u32,
+        /// The first operand, the most significant.
+        first: Box<Expr>,
+        /// The others.
+        others: Vec<NextExpression>,
+        /// `}`.
+        closing: u32,
+        /// Selects of its bits.
+        selects: Vec<RangeSelect>,
+    },
+    /// A cast to a sign: `signed'(e)` (6.24.1).
+    SignCast {
+        /// The sign.
+        sign: Word<Sign>,
+        /// What is cast.
+        cast: Cast,
+    },
+    /// An integer type in the place of an expression: `logic [7:0]` (6.11), as an argument of `$bits` (20.6.2).
+    Type {
+        /// The type's keyword.
+        keyword: Word<IntegerKeyword>,
+        /// The sign, where one is written.
+        sign: Option<Word<Sign>>,
+        /// The packed dimensions, from left to right.
+        dimensions: Vec<Dimension>,
+    },
+    /// A cast to an integer type: `int'(e)` (6.24.1).
+    TypeCast {
+        /// The type's keyword.
+        keyword: Word<IntegerKeyword>,
+        /// The sign, where one is written.
+        sign: Option<Word<Sign>>,
+        /// The packed dimensions, from left to right.
+        dimensions: Vec<Dimension>,
+        /// What is cast.
+        cast: Cast,
+    },
+    /// A system function without a list of arguments: `$time` (clause 20).
+    SystemName {
+        /// Its name.
+        name: u32,
+        /// Selects of its result.
+        selects: Vec<Select>,
+    },
+    /// A call of a system function: `$clog2(n)` (clause 20).
+    SystemCall {
+        /// Its name.
+        name: u32,
+        /// Its arguments.
+        arguments: ArgumentList,
+        /// Selects of its result.
+        selects: Vec<Select>,
+    },
+    /// A name with what is applied to it, in order: selects, calls, casts and patterns (A.8.4).
+    Name {
+        /// The name.
+        name: ScopedName,
+        /// What is applied to it.
+        postfixes: Vec<Postfix>,
+    },
+    /// An operator and its operand (11.4).
+    Unary {
+        /// The operator.
+        operator: UnaryOperator,
+        /// The operator's token.
+        at: u32,
+        /// The operand.
+        operand: Box<Expr>,
+    },
+    /// A chain of operators of one level of Table 11-2, grouped from the left: `a + b - c` is `(a + b) - c`, so each operation
+    /// applies to all that stands before it (11.3.2).
+    Operations {
+        /// The first operand.
+        first: Box<Expr>,
+        /// The operations, at least one, all of one level, from left to right.
+        rest: Vec<Operation>,
+    },
+    /// One of two values by a condition: `c ? a : b` (11.4.11).
+    Conditional {
+        /// The condition.
+        condition: Box<Expr>,
+        /// `?`.
+        question: u32,
+        /// The value where the condition is true.
+        chosen: Box<Expr>,
+        /// `:`.
+        colon: u32,
+        /// The value where it is false.
+        otherwise: Box<Expr>,
+    },
+    /// `a -> b` or `a <-> b`, grouped from the right (11.4.7).
+    Implication {
+        /// The left operand.
+        left: Box<Expr>,
+        /// The operator.
+        operator: ImplicationOperator,
+        /// The operator's token.
+        at: u32,
+        /// The right operand.
+        right: Box<Expr>,
+    },
+}
+
+/// An operation of a chain, on what stands before it.
+#[cycle(expression)]
+#[derive(Drop)]
+pub enum Operation {
+    /// An operator and its right operand (11.4).
+    Binary {
+        /// The operator.
+        operator: BinaryOperator,
+        /// The operator's token.
+        at: u32,
+        /// The right operand.
+        right: Expr,
+    },
+    /// Whether the value is among others: `inside {1, [3:5]}` (11.4.13). It is of the level of the comparisons by order.
+    Inside {
+        /// `inside`.
+        keyword: u32,
+        /// `{`.
+        opening: u32,
+        /// The first value or range.
+        first: ValueRange,
+        /// The others.
+        others: Vec<NextValueRange>,
+        /// `}`.
+        closing: u32,
+    },
+}
+
+/// An expression in parentheses.
+#[cycle(expression)]
+#[derive(Drop)]
+pub struct Parenthesized {
+    /// `(`.
+    pub opening: u32,
+    /// The expression.
+    pub value: Box<Expr>,
+    /// `)`.
+    pub closing: u32,
+}
+
+/// An apostrophe and, in parentheses, what is cast (6.24.1).
+#[cycle(expression)]
+#[derive(Drop)]
+pub struct Cast {
+    /// `'`.
+    pub apostrophe: u32,
+    /// The value.
+    pub value: Parenthesized,
+}
+
+/// A comma and an expression.
+#[cycle(expression)]
+#[derive(Drop)]
+pub struct NextExpression {
+    /// `,`.
+    pub comma: u32,
+    /// The expression.
+    pub value: Expr,
+}
+
+/// A dimension of a type or of a name (7.4).
+#[cycle(expression)]
+#[derive(Drop)]
+pub enum Dimension {
+    /// A size: `[n]`.
+    Size {
+        /// `[`.
+        opening: u32,
+        /// The number of places.
+        size: Box<Expr>,
+        /// `]`.
+        closing: u32,
+    },
+    /// Two bounds: `[a:b]`.
+    Range {
+        /// `[`.
+        opening: u32,
+        /// The leftmost place.
+        left: Box<Expr>,
+        /// `:`.
+        colon: u32,
+        /// The rightmost place.
+        right: Box<Expr>,
+        /// `]`.
+        closing: u32,
+    },
+}
+
+/// Which places are selected (11.5.1).
+#[cycle(expression)]
+#[derive(Drop)]
+pub enum Range {
+    /// One place.
+    Index {
+        /// The place.
+        index: Box<Expr>,
+    },
+    /// Those from one to another: `a:b`.
+    Between {
+        /// The leftmost place.
+        left: Box<Expr>,
+        /// `:`.
+        colon: u32,
+        /// The rightmost place.
+        right: Box<Expr>,
+    },
+    /// So many upward: `a +: n`.
+    Upward {
+        /// The lowest place.
+        from: Box<Expr>,
+        /// `+:`.
+        at: u32,
+        /// How many.
+        width: Box<Expr>,
+    },
+    /// So many downward: `a -: n`.
+    Downward {
+        /// The highest place.
+        from: Box<Expr>,
+        /// `-:`.
+        at: u32,
+        /// How many.
+        width: Box<Expr>,
+    },
+}
+
+/// A range in brackets.
+#[cycle(expression)]
+#[derive(Drop)]
+pub struct RangeSelect {
+    /// `[`.
+    pub opening: u32,
+    /// The range.
+    pub range: Range,
+    /// `]`.
+    pub closing: u32,
+}
+
+/// A step from a name to a part of what it names (11.5).
+#[cycle(expression)]
+#[derive(Drop)]
+pub enum Select {
+    /// A member of a structure, or a name in a scope: `.m`.
+    Member {
+        /// `.`.
+        dot: u32,
+        /// The name.
+        name: u32,
+    },
+    /// Bits or elements: `[3:0]`.
+    Range {
+        /// The range.
+        select: RangeSelect,
+    },
+}
+
+/// What is applied to a name.
+#[cycle(expression)]
+#[derive(Drop)]
+pub enum Postfix {
+    /// A member, bits or elements.
+    Select {
+        /// The step.
+        select: Select,
+    },
+    /// A call (13.5).
+    Call {
+        /// The arguments.
+        arguments: ArgumentList,
+    },
+    /// A cast, where the name is a type or a constant size (6.24.1).
+    Cast {
+        /// What is cast.
+        cast: Cast,
+    },
+    /// An assignment pattern of the type that the name is (10.9).
+    Pattern {
+        /// The pattern.
+        pattern: Pattern,
+    },
+}
+
+/// Arguments in parentheses: of a call (13.5), or connections or overrides of an instance (23.3.2 and 23.10.2).
+#[cycle(expression)]
+#[derive(Drop)]
+pub struct ArgumentList {
+    /// `(`.
+    pub opening: u32,
+    /// The first argument. The list `()` has one, which is empty.
+    pub first: Arg,
+    /// The others.
+    pub others: Vec<NextArgument>,
+    /// `)`.
+    pub closing: u32,
+}
+
+/// An argument of a call, or a connection or an override of an instance (13.5.4, 23.3.2).
+#[cycle(expression)]
+#[derive(Drop)]
+pub enum Arg {
+    /// `.*`.
+    Wildcard {
+        /// `.*`.
+        token: u32,
+    },
+    /// A name that is given the thing of the same name: `.n`.
+    Implicit {
+        /// `.`.
+        dot: u32,
+        /// The name.
+        name: u32,
+    },
+    /// A name that is given nothing: `.n()`.
+    Unconnected {
+        /// `.`.
+        dot: u32,
+        /// The name.
+        name: u32,
+        /// `(`.
+        opening: u32,
+        /// `)`.
+        closing: u32,
+    },
+    /// A name that is given a value: `.n(e)`.
+    Named {
+        /// `.`.
+        dot: u32,
+        /// The name.
+        name: u32,
+        /// `(`.
+        opening: u32,
+        /// The value.
+        value: Box<Expr>,
+        /// `)`.
+        closing: u32,
+    },
+    /// A value by its place in the list.
+    Ordered {
+        /// The value.
+        value: Box<Expr>,
+    },
+    /// Nothing, in its place in the list.
+    Empty,
+}
+
+/// A comma and an argument.
+#[cycle(expression)]
+#[derive(Drop)]
+pub struct NextArgument {
+    /// `,`.
+    pub comma: u32,
+    /// The argument.
+    pub argument: Arg,
+}
+
+/// A value, or all values between two bounds (11.4.13).
+#[cycle(expression)]
+#[derive(Drop)]
+pub enum ValueRange {
+    /// `[a:b]`.
+    Between {
+        /// `[`.
+        opening: u32,
+        /// The lower bound.
+        low: Box<Expr>,
+        /// `:`.
+        colon: u32,
+        /// The upper bound.
+        high: Box<Expr>,
+        /// `]`.
+        closing: u32,
+    },
+    /// One value.
+    Value {
+        /// The value.
+        value: Box<Expr>,
+    },
+}
+
+/// A comma and a value or a range.
+#[cycle(expression)]
+#[derive(Drop)]
+pub struct NextValueRange {
+    /// `,`.
+    pub comma: u32,
+    /// The value or the range.
+    pub range: ValueRange,
+}
+
+/// An assignment pattern (10.9).
+#[cycle(expression)]
+#[derive(Drop)]
+pub struct Pattern {
+    /// `'{`.
+    pub opening: u32,
+    /// The first item.
+    pub first: PatternItem,
+    /// The others.
+    pub others: Vec<NextPatternItem>,
+    /// `}`.
+    pub closing: u32,
+}
+
+/// An item of an assignment pattern (10.9).
+#[cycle(expression)]
+#[derive(Drop)]
+pub enum PatternItem {
+    /// The value of all that is not given otherwise: `default: e`.
+    Default {
+        /// `default`.
+        keyword: u32,
+        /// `:`.
+        colon: u32,
+        /// The value.
+        value: Box<Expr>,
+    },
+    /// A value by its place.
+    Value {
+        /// The value.
+        value: Box<Expr>,
+    },
+    /// A value of a member, an index or a type: `k: e`.
+    Keyed {
+        /// The member, index or type.
+        key: Box<Expr>,
+        /// `:`.
+        colon: u32,
+        /// The value.
+        value: Box<Expr>,
+    },
+    /// Values that are repeated: `n{a, b}`.
+    Repeated {
+        /// How often.
+        count: Box<Expr>,
+        /// `{`.
+        opening: u32,
+        /// The first value.
+        first: Box<Expr>,
+        /// The others.
+        others: Vec<NextExpression>,
+        /// `}`.
+        closing: u32,
+    },
+}
+
+/// A comma and an item of an assignment pattern.
+#[cycle(expression)]
+#[derive(Drop)]
+pub struct NextPatternItem {
+    /// `,`.
+    pub comma: u32,
+    /// The item.
+    pub item: PatternItem,
+}

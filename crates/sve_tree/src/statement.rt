@@ -1,0 +1,682 @@
+use crate::data_type::{DataType, Declarator, Initializer, NamedType, TypeRef};
+use crate::declaration::{
+    DataDeclaration, DeclarationEnd, Parameters, Typedef, VariableDeclaration,
+};
+use crate::expression::{ArgumentList, Cast, Expr, NextExpression, Parenthesized, Select};
+use crate::word::{
+    AssignmentOperator, CaseKeyword, Label, Lifetime, LoopKeyword, NextName, ScopedName,
+    StepOperator, Uniqueness, Word,
+};
+use sve_bytes::Dir;
+
+/// What an assignment writes to: a name with selects, or several of them in braces (IEEE 1800-2017, A.8.5).
+#[cycle(left_side)]
+#[derive(Drop)]
+pub enum LeftSide {
+    /// A name.
+    Name {
+        /// The name.
+        name: u32,
+        /// Its selects.
+        selects: Vec<Select>,
+    },
+    /// Several left sides: `{a, b}`.
+    Concatenation {
+        /// The braces and what stands in them.
+        concatenation: LeftConcatenation,
+    },
+}
+
+/// Left sides in braces, the most significant first (11.4.12).
+#[cycle(left_side)]
+#[derive(Drop)]
+pub struct LeftConcatenation {
+    /// `{`.
+    pub opening: u32,
+    /// The first.
+    pub first: Box<LeftSide>,
+    /// The others.
+    pub others: Vec<NextLeftSide>,
+    /// `}`.
+    pub closing: u32,
+}
+
+/// A comma and a left side.
+#[cycle(left_side)]
+#[derive(Drop)]
+pub struct NextLeftSide {
+    /// `,`.
+    pub comma: u32,
+    /// The left side.
+    pub side: LeftSide,
+}
+
+/// How a name is changed: by a value or by one (10.4 and 11.4.2).
+#[derive(Drop)]
+pub enum Change {
+    /// A value is assigned.
+    Assign {
+        /// The operator.
+        operator: Word<AssignmentOperator>,
+        /// The value.
+        value: Box<Expr>,
+    },
+    /// One is added or taken off.
+    Step {
+        /// The operator.
+        operator: Word<StepOperator>,
+    },
+}
+
+/// What a statement does with the name at its front.
+#[derive(Drop)]
+pub enum StatementTail {
+    /// A value is assigned to it (10.4 and 11.4.1).
+    Assign {
+        /// The operator.
+        operator: Word<AssignmentOperator>,
+        /// The value.
+        value: Box<Expr>,
+    },
+    /// One is added to it or taken off (11.4.2).
+    Step {
+        /// The operator.
+        operator: Word<StepOperator>,
+    },
+    /// It is called (13.5).
+    Call {
+        /// The arguments.
+        arguments: ArgumentList,
+    },
+}
+
+/// A statement (clause 12, A.6).
+#[cycle(statement)]
+#[derive(Drop)]
+pub enum Stmt {
+    /// `;`.
+    Empty {
+        /// `;`.
+        semicolon: u32,
+    },
+    /// `begin` to `end` (9.3.1).
+    Block {
+        /// The block.
+        block: Box<Block>,
+    },
+    /// `if` (12.4).
+    If {
+        /// `unique`, `unique0` or `priority`, where one is written.
+        uniqueness: Option<Word<Uniqueness>>,
+        /// The statement.
+        statement: Box<IfStatement>,
+    },
+    /// `case` (12.5).
+    Case {
+        /// `unique`, `unique0` or `priority`, where one is written.
+        uniqueness: Option<Word<Uniqueness>>,
+        /// The statement.
+        statement: Box<CaseStatement>,
+    },
+    /// `for` (12.7.1).
+    For {
+        /// The loop.
+        statement: Box<ForStatement>,
+    },
+    /// `foreach` (12.7.3).
+    Foreach {
+        /// The loop.
+        statement: Box<ForeachStatement>,
+    },
+    /// `while` or `repeat` (12.7.2 and 12.7.4).
+    Loop {
+        /// The loop.
+        statement: Box<LoopStatement>,
+    },
+    /// `do` (12.7.5).
+    Do {
+        /// The loop.
+        statement: Box<DoStatement>,
+    },
+    /// `return` (12.8).
+    Return {
+        /// The statement.
+        statement: Box<ReturnStatement>,
+    },
+    /// `break;` (12.8).
+    Break {
+        /// `break`.
+        keyword: u32,
+        /// `;`.
+        semicolon: u32,
+    },
+    /// `continue;` (12.8).
+    Continue {
+        /// `continue`.
+        keyword: u32,
+        /// `;`.
+        semicolon: u32,
+    },
+    /// A system task or function (20 and 21).
+    SystemTask {
+        /// The statement.
+        task: Box<SystemTask>,
+    },
+    /// A call whose result is dropped: `void'(f(1));` (13.4.1).
+    VoidCall {
+        /// The statement.
+        call: Box<VoidCall>,
+    },
+    /// One added or taken off, with the operator in front: `++i;` (11.4.2).
+    Step {
+        /// The statement.
+        statement: Box<StepStatement>,
+    },
+    /// An assignment to several left sides: `{a, b} = c;` (10.4).
+    Concatenation {
+        /// The assignment.
+        assignment: Box<ConcatenationAssignment>,
+    },
+    /// A statement that begins with a name: `a[0] <= b;`, `i++;`, `f(1);`.
+    Name {
+        /// The statement.
+        statement: Box<NameStatement>,
+    },
+}
+
+/// Statements and declarations from `begin` to `end` (9.3.1).
+#[cycle(statement)]
+#[derive(Drop)]
+pub struct Block {
+    /// `begin`.
+    pub begin: u32,
+    /// Its label, where one is written.
+    pub label: Option<Label>,
+    /// What stands in it.
+    pub items: Vec<BlockItem>,
+    /// `end`.
+    pub end: u32,
+    /// The label after `end`, where one is written.
+    pub end_label: Option<Label>,
+}
+
+/// A declaration or a statement of a block or of a function (A.2.8).
+#[cycle(statement)]
+#[derive(Drop)]
+pub enum BlockItem {
+    /// A declaration with a lifetime: `automatic int i;` (6.21).
+    Local {
+        /// The lifetime.
+        lifetime: Word<Lifetime>,
+        /// The variables.
+        declaration: LocalDeclaration,
+        /// `;`.
+        semicolon: u32,
+    },
+    /// A declaration with `var` (6.8).
+    Variable {
+        /// The declaration.
+        declaration: Box<VariableDeclaration>,
+    },
+    /// A declaration that begins with its type's keyword (6.8).
+    Data {
+        /// The declaration.
+        declaration: Box<DataDeclaration>,
+    },
+    /// Parameters (6.20).
+    Parameters {
+        /// The declaration.
+        declaration: Box<Parameters>,
+    },
+    /// A type (6.18).
+    Typedef {
+        /// The declaration.
+        declaration: Box<Typedef>,
+    },
+    /// A declaration that begins with a type's name: `t [3:0] a = 1, b;` (6.8). Of the selects behind the name, each has to be
+    /// a dimension.
+    NamedData {
+        /// The type's name.
+        name: ScopedName,
+        /// What stands between the type's name and the first declared name.
+        selects: Vec<Select>,
+        /// The first declared name.
+        declarator: Declarator,
+        /// Its value and the further names.
+        end: DeclarationEnd,
+        /// `;`.
+        semicolon: u32,
+    },
+    /// A statement that begins with a name.
+    Name {
+        /// The statement.
+        statement: Box<NameStatement>,
+    },
+    /// Any other statement.
+    Statement {
+        /// The statement.
+        statement: Stmt,
+    },
+}
+
+/// Variables behind a lifetime, with their type (6.21).
+#[derive(Drop)]
+pub enum LocalDeclaration {
+    /// A type that begins with a keyword.
+    Written {
+        /// The type.
+        data_type: DataType,
+        /// The first name.
+        declarator: Declarator,
+        /// Its value and the further names.
+        end: DeclarationEnd,
+    },
+    /// A type by its name.
+    Named {
+        /// The type.
+        named: NamedType,
+        /// The first name.
+        declarator: Declarator,
+        /// Its value and the further names.
+        end: DeclarationEnd,
+    },
+}
+
+/// `if` with its statement, and `else` (12.4).
+#[cycle(statement)]
+#[derive(Drop)]
+pub struct IfStatement {
+    /// `if`.
+    pub keyword: u32,
+    /// The condition.
+    pub condition: Parenthesized,
+    /// What is done where it is true.
+    pub chosen: Box<Stmt>,
+    /// What is done where it is not, where that is written.
+    pub otherwise: Option<ElseBranch>,
+}
+
+/// `else` and its statement (12.4).
+#[cycle(statement)]
+#[derive(Drop)]
+pub struct ElseBranch {
+    /// `else`.
+    pub keyword: u32,
+    /// The statement.
+    pub statement: Box<Stmt>,
+}
+
+/// A case statement (12.5).
+#[cycle(statement)]
+#[derive(Drop)]
+pub struct CaseStatement {
+    /// `case`, `casez` or `casex`.
+    pub keyword: Word<CaseKeyword>,
+    /// The selector.
+    pub selector: Parenthesized,
+    /// The first item.
+    pub first: CaseItem,
+    /// The others.
+    pub others: Vec<CaseItem>,
+    /// `endcase`.
+    pub end: u32,
+}
+
+/// An item of a case statement (12.5).
+#[cycle(statement)]
+#[derive(Drop)]
+pub enum CaseItem {
+    /// What is done where no label fits.
+    Default {
+        /// `default`.
+        keyword: u32,
+        /// `:`, where one is written.
+        colon: Option<u32>,
+        /// The statement.
+        statement: Box<Stmt>,
+    },
+    /// What is done where one of the labels fits.
+    Labels {
+        /// The first label.
+        first: Box<Expr>,
+        /// The others.
+        others: Vec<NextExpression>,
+        /// `:`.
+        colon: u32,
+        /// The statement.
+        statement: Box<Stmt>,
+    },
+}
+
+/// A for loop (12.7.1).
+#[cycle(statement)]
+#[derive(Drop)]
+pub struct ForStatement {
+    /// `for`.
+    pub keyword: u32,
+    /// `(`.
+    pub opening: u32,
+    /// What is done at first.
+    pub initialization: ForInitialization,
+    /// The first `;`.
+    pub first_semicolon: u32,
+    /// The condition, where one is written.
+    pub condition: Option<Box<Expr>>,
+    /// The second `;`.
+    pub second_semicolon: u32,
+    /// What is done after each turn, where that is written.
+    pub steps: Option<ForSteps>,
+    /// `)`.
+    pub closing: u32,
+    /// The statement.
+    pub body: Box<Stmt>,
+}
+
+/// What a for loop does at first (12.7.1).
+#[derive(Drop)]
+pub enum ForInitialization {
+    /// It declares variables, the first with a type that begins with a keyword: `int i = 0, j = 1`.
+    Declared {
+        /// The type.
+        data_type: DataType,
+        /// The first name.
+        declarator: Declarator,
+        /// Its value.
+        value: Initializer,
+        /// The others.
+        others: Vec<NextForVariable>,
+    },
+    /// It assigns to a name: `i = 0`.
+    Assigned {
+        /// The name.
+        name: ScopedName,
+        /// Its selects.
+        selects: Vec<Select>,
+        /// The operator.
+        operator: Word<AssignmentOperator>,
+        /// The value.
+        value: Box<Expr>,
+    },
+    /// It declares a variable of a type by its name: `t i = 0`. Of the selects behind the name, each has to be a dimension.
+    NamedType {
+        /// The type's name.
+        name: ScopedName,
+        /// What stands between the type's name and the declared name.
+        selects: Vec<Select>,
+        /// The declared name.
+        declarator: Declarator,
+        /// Its value.
+        value: Initializer,
+    },
+}
+
+/// A comma and a further variable of a for loop.
+#[derive(Drop)]
+pub struct NextForVariable {
+    /// `,`.
+    pub comma: u32,
+    /// The type; where none is written, that of the variable before.
+    pub data_type: Option<DataType>,
+    /// The name.
+    pub declarator: Declarator,
+    /// Its value.
+    pub value: Initializer,
+}
+
+/// What a for loop does after each turn (12.7.1).
+#[derive(Drop)]
+pub struct ForSteps {
+    /// The first step.
+    pub first: ForStep,
+    /// The others.
+    pub others: Vec<NextForStep>,
+}
+
+/// A step of a for loop (12.7.1).
+#[derive(Drop)]
+pub enum ForStep {
+    /// One added or taken off, with the operator in front: `++i`.
+    Before {
+        /// The operator.
+        operator: Word<StepOperator>,
+        /// The name.
+        name: u32,
+        /// Its selects.
+        selects: Vec<Select>,
+    },
+    /// A name that is changed: `i += 2`, `i++`.
+    Change {
+        /// The name.
+        name: u32,
+        /// Its selects.
+        selects: Vec<Select>,
+        /// How it is changed.
+        change: Change,
+    },
+}
+
+/// A comma and a step of a for loop.
+#[derive(Drop)]
+pub struct NextForStep {
+    /// `,`.
+    pub comma: u32,
+    /// The step.
+    pub step: ForStep,
+}
+
+/// A loop over the elements of an array: `foreach (a[i, j])` (12.7.3).
+#[cycle(statement)]
+#[derive(Drop)]
+pub struct ForeachStatement {
+    /// `foreach`.
+    pub keyword: u32,
+    /// `(`.
+    pub opening: u32,
+    /// The array.
+    pub array: u32,
+    /// `[`.
+    pub opening_bracket: u32,
+    /// The first loop variable.
+    pub first: u32,
+    /// The others.
+    pub others: Vec<NextName>,
+    /// `]`.
+    pub closing_bracket: u32,
+    /// `)`.
+    pub closing: u32,
+    /// The statement.
+    pub body: Box<Stmt>,
+}
+
+/// `while` or `repeat` with its statement (12.7.2 and 12.7.4).
+#[cycle(statement)]
+#[derive(Drop)]
+pub struct LoopStatement {
+    /// `while` or `repeat`.
+    pub keyword: Word<LoopKeyword>,
+    /// The condition or the count.
+    pub condition: Parenthesized,
+    /// The statement.
+    pub body: Box<Stmt>,
+}
+
+/// `do`, a statement and its condition (12.7.5).
+#[cycle(statement)]
+#[derive(Drop)]
+pub struct DoStatement {
+    /// `do`.
+    pub keyword: u32,
+    /// The statement.
+    pub body: Box<Stmt>,
+    /// `while`.
+    pub while_keyword: u32,
+    /// The condition.
+    pub condition: Parenthesized,
+    /// `;`.
+    pub semicolon: u32,
+}
+
+/// `return` (12.8).
+#[derive(Drop)]
+pub struct ReturnStatement {
+    /// `return`.
+    pub keyword: u32,
+    /// The value, where one is written.
+    pub value: Option<Box<Expr>>,
+    /// `;`.
+    pub semicolon: u32,
+}
+
+/// A system task or function as a statement or an item: `$display(a);` (clauses 20 and 21).
+#[derive(Drop)]
+pub struct SystemTask {
+    /// Its name.
+    pub name: u32,
+    /// Its arguments, where they are written.
+    pub arguments: Option<ArgumentList>,
+    /// `;`.
+    pub semicolon: u32,
+}
+
+/// A call whose result is dropped: `void'(f(1));` (13.4.1).
+#[derive(Drop)]
+pub struct VoidCall {
+    /// `void`.
+    pub keyword: u32,
+    /// The call.
+    pub cast: Cast,
+    /// `;`.
+    pub semicolon: u32,
+}
+
+/// One added or taken off, with the operator in front: `++i;` (11.4.2).
+#[derive(Drop)]
+pub struct StepStatement {
+    /// The operator.
+    pub operator: Word<StepOperator>,
+    /// The name.
+    pub name: u32,
+    /// Its selects.
+    pub selects: Vec<Select>,
+    /// `;`.
+    pub semicolon: u32,
+}
+
+/// An assignment to several left sides: `{a, b} = c;` (10.4).
+#[derive(Drop)]
+pub struct ConcatenationAssignment {
+    /// The left sides.
+    pub left: LeftConcatenation,
+    /// The operator.
+    pub operator: Word<AssignmentOperator>,
+    /// The value.
+    pub value: Box<Expr>,
+    /// `;`.
+    pub semicolon: u32,
+}
+
+/// A statement that begins with a name: an assignment, a step or a call.
+#[derive(Drop)]
+pub struct NameStatement {
+    /// The name.
+    pub name: ScopedName,
+    /// Its selects.
+    pub selects: Vec<Select>,
+    /// What is done with it.
+    pub tail: StatementTail,
+    /// `;`.
+    pub semicolon: u32,
+}
+
+/// A function (13.4).
+#[derive(Drop)]
+pub struct Func {
+    /// `function`.
+    pub keyword: u32,
+    /// The lifetime of its variables, where one is written.
+    pub lifetime: Option<Word<Lifetime>>,
+    /// Its result's type and its name.
+    pub result_type: FunctionResult,
+    /// Its formal arguments, where there is a list of them.
+    pub formals: Option<Formals>,
+    /// `;`.
+    pub semicolon: u32,
+    /// Its declarations and statements.
+    pub items: Vec<BlockItem>,
+    /// `endfunction`.
+    pub end: u32,
+    /// The label after `endfunction`, where one is written.
+    pub label: Option<Label>,
+}
+
+/// The type of a function's result, and the function's name (13.4).
+#[derive(Drop)]
+pub enum FunctionResult {
+    /// A function without a result (13.4.1).
+    Void {
+        /// `void`.
+        keyword: u32,
+        /// The name.
+        name: u32,
+    },
+    /// A type, where one is written, and the name. Its dimensions behind the name have to be none.
+    Typed {
+        /// The type and the name.
+        data_type: TypeRef,
+    },
+}
+
+/// The formal arguments of a function in their parentheses (13.5).
+#[derive(Drop)]
+pub struct Formals {
+    /// `(`.
+    pub opening: u32,
+    /// The formals, where there are any.
+    pub list: Option<FormalList>,
+    /// `)`.
+    pub closing: u32,
+}
+
+/// The formal arguments of a function.
+#[derive(Drop)]
+pub struct FormalList {
+    /// The first.
+    pub first: Formal,
+    /// The others.
+    pub others: Vec<NextFormal>,
+}
+
+/// A formal argument (13.5).
+#[derive(Drop)]
+pub struct Formal {
+    /// The direction, where one is written.
+    pub direction: Option<FormalDirection>,
+    /// `var`, where it is written.
+    pub variable: Option<u32>,
+    /// The type, where one is written, and the name.
+    pub data_type: TypeRef,
+}
+
+/// A comma and a further formal argument.
+#[derive(Drop)]
+pub struct NextFormal {
+    /// `,`.
+    pub comma: u32,
+    /// The formal.
+    pub formal: Formal,
+}
+
+/// How a formal argument is passed (13.5).
+#[derive(Clone, Copy, Debug)]
+pub enum FormalDirection {
+    /// In, out or both.
+    Value {
+        /// The direction.
+        direction: Word<Dir>,
+    },
+    /// By reference (13.5.2).
+    Reference {
+        /// `ref`.
+        keyword: u32,
+    },
+}
