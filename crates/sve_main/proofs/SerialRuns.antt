@@ -11,7 +11,7 @@ use Rattle.sve_script.specs.declared.commands.Script.{Script}
 use Rattle.sve_script.specs.declared.commands.Command.{Command}
 use Rattle.sve_script.specs.declared.commands.Command.TheVariants.{Commit, Ask}
 use Rattle.sve_script.specs.declared.commands.Query.{Query}
-use Rattle.sve_script.specs.declared.commands.Query.TheVariants.{File}
+use Rattle.sve_script.specs.declared.commands.Query.TheVariants.{File, Expand}
 use Rattle.sve_script.specs.Fits.{CommandFits, ClientsFit}
 use Rattle.sve_main.specs.declared.entry.Entry.{Entry}
 use Rattle.sve_main.specs.declared.record.Record.{Record}
@@ -97,6 +97,7 @@ own h j (Ask query mode budget ∷ rest) = own h (j + 1) rest
 
 answers : (files : FilesValue) (query : Query) (budget : ℕ) → answer files query budget ≡ Done (lines_of files query)
 answers files (File name) budget = ap (λ (t : Bool). if t then Spent else Done (lines_of files (File name))) (le-ltb budget 0 (omega arith))
+answers files (Expand name) budget = ap (λ (t : Bool). if t then Spent else Done (lines_of files (Expand name))) (le-ltb budget 0 (omega arith))
 
 walks : (script : Script) (done rest : List Command) (j front : ℕ) (h : Revisions) (entries : List Entry) → IsAt script.clients done rest j
     → entries ≡ h.entries ++ new_entries j rest → h.newest ≡ files_from (edits_in script.clients) 0 script.files h.entries → front ≤ length h.entries

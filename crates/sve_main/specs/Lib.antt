@@ -1,6 +1,7 @@
 pub mod Answers
 pub mod Cutting
 pub mod Endings
+pub mod Expansions
 pub mod Histories
 pub mod Honest
 pub mod Lines

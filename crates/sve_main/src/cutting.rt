@@ -27,6 +27,16 @@ pub fn barred_lines(
     Ok(())
 }
 
+/// Adds each line of these bytes, in the same way.
+pub fn barred_bytes(alloc: Global, text: &[u8], lines: &mut Vec<List<u8>>) -> Result<(), NoMemory>
+    ensures { OnOk result (lines.new.items ≡ lines.old.items ++ barred text.now) }
+{
+    let mut last = Vec::from_slice(alloc, b"|")?;
+    add_run(alloc, text, lines, &mut last)?;
+    lines.push(List::of(last))?;
+    Ok(())
+}
+
 /// Adds the bytes of a run to the line, and each line that a line feed ends to the lines.
 fn add_run(
     alloc: Global,

@@ -4,6 +4,7 @@
 mod answering;
 mod cutting;
 mod entry;
+mod file_texts;
 mod history;
 mod record;
 mod reporting;

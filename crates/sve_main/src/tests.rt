@@ -67,6 +67,16 @@ fn sessions_give_their_reports(rt: HostRuntime) -> Result<(), Fail> {
             "history 1\n1 1 2\nclient 1\n1 answer 0 2\nstamp 0 bytes 0\n|\n2 accepted 1\n3 answer 1 2\nstamp 1 bytes 1\n|x\n4 answer 1 2\nstamp 0 bytes 0\n|\n",
         ),
         (
+            r#"{"files":[{"name":"m.sv","text":"`define F(a,b=7,c) a``_x b `\"c`\"\n`F(p,,(q,r))\n"}],"clients":[[{"ask":"expand","name":"m.sv"}]]}"#,
+            Status::Done,
+            "history 0\nclient 1\n1 answer 0 4\nbytes 15\n|\n|p_x 7 \"(q,r)\"\n|\n",
+        ),
+        (
+            r#"{"files":[{"name":"t.sv","text":"`include \"w.svh\"\nmodule t; endmodule\n"}],"clients":[[{"ask":"expand","name":"t.sv"},{"commit":[{"put":"w.svh","text":"localparam W = 4;\n"}]},{"ask":"expand","name":"t.sv"},{"ask":"expand","name":"w.svh"},{"ask":"expand","name":"x.sv"},{"ask":"expand","name":"no file"}]]}"#,
+            Status::Done,
+            "history 1\n1 1 2\nclient 1\n1 answer 0 4\nbytes 21\n|\n|module t; endmodule\n|\n2 accepted 1\n3 answer 1 5\nbytes 39\n|localparam W = 4;\n|\n|module t; endmodule\n|\n4 answer 1 3\nbytes 18\n|localparam W = 4;\n|\n5 answer 1 1\nnone\n6 answer 1 1\nnone\n",
+        ),
+        (
             r#"{"files":[],"clients":[]}"#,
             Status::BadSession,
             "bad session: later\n",

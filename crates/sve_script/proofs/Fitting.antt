@@ -14,10 +14,10 @@ use Rattle.sve_text.specs.Files.{EditFits, EditsFit, TextsFit}
 use Rattle.sve_script.specs.declared.commands.Script.{Script}
 use Rattle.sve_script.specs.declared.commands.Command.{Command}
 use Rattle.sve_script.specs.declared.commands.Command.TheVariants.{Commit, Ask}
-use Rattle.sve_script.specs.declared.commands.Query.TheVariants.{File}
+use Rattle.sve_script.specs.declared.commands.Query.{Query}
 use Rattle.sve_script.specs.declared.commands.TheConstants.{MAX_EDITS}
 use Rattle.sve_script.specs.Shapes.{has_exactly, member_as, each_as}
-use Rattle.sve_script.specs.Session.{put_of, edit_with, edit_of, commit_of, commit_with, ask_of, ask_with, command_with, command_of, client_of, is_in_limits, script_from, file_of, file_with, opening_file_of, script_with, IsSession}
+use Rattle.sve_script.specs.Session.{put_of, edit_with, edit_of, commit_of, commit_with, query_of, ask_of, ask_with, command_with, command_of, client_of, is_in_limits, script_from, file_of, file_with, opening_file_of, script_with, IsSession}
 use Rattle.sve_script.specs.Distinct.{have_distinct_names}
 use Rattle.sve_script.specs.Fits.{CommandFits, ClientsFit}
 
@@ -77,13 +77,15 @@ commit_fits ms c is = at_edits (option_and_then (each_as edit_of) (member_as as_
         let p = passed (nat_le (length es) MAX_EDITS) (Some (Commit es)) c e in
         subst CommandFits (let same : Commit es ≡ c = cc (p.1) in same) (fits es refl)
 
+query_fits : (o : Option Query) (c : Command) → option_map (λ query. Ask query Latest None) o ≡ Some c → CommandFits c
+query_fits None c is = absurd (cc)
+query_fits (Some query) c is = subst CommandFits (let same : Ask query Latest None ≡ c = cc in same) tt
+
 ask_fits : (ms : Members) (c : Command) → ask_with ms ≡ Some c → CommandFits c
 ask_fits ms c is = members_fit (passed (has_exactly (codes "ask" ∷ codes "name" ∷ []) ms) _ c is).1
   where
     name_fits : (ask name : List ℕ) (c : Command) → ask_of ask name ≡ Some c → CommandFits c
-    name_fits ask name c is =
-        let p = passed (bytes_eq ask (codes "file")) (Some (Ask (File name) Latest None)) c is in
-        subst CommandFits (let same : Ask (File name) Latest None ≡ c = cc (p.1) in same) tt
+    name_fits ask name c is = query_fits (query_of ask name) c is
 
     members_fit : option_and_then (λ ask. option_and_then (ask_of ask) (member_as as_str (codes "name") ms)) (member_as as_str (codes "ask") ms) ≡ Some c → CommandFits c
     members_fit is = chained CommandFits _ (λ ask c is. chained CommandFits (ask_of ask) (name_fits ask) (member_as as_str (codes "name") ms) c is) (member_as as_str (codes "ask") ms) c is

@@ -14,7 +14,8 @@ use Rattle.sve_script.specs.Shapes.{has_exactly, member_as, each_as}
 use Rattle.sve_script.specs.declared.commands.Script.{Script}
 use Rattle.sve_script.specs.declared.commands.Command.{Command}
 use Rattle.sve_script.specs.declared.commands.Command.TheVariants.{Commit, Ask}
-use Rattle.sve_script.specs.declared.commands.Query.TheVariants.{File}
+use Rattle.sve_script.specs.declared.commands.Query.{Query}
+use Rattle.sve_script.specs.declared.commands.Query.TheVariants.{File, Expand}
 use Rattle.sve_script.specs.declared.commands.TheConstants.{MAX_COMMANDS, MAX_EDITS, MAX_FILES}
 
 -- the bytes are JSON with this value, by the reading of `serde_json`
@@ -45,9 +46,16 @@ commit_of edits = if nat_le (length edits) MAX_EDITS then Some (Commit edits) el
 abbrev pub commit_with : Members → Option Command
 commit_with members = option_and_then commit_of (option_and_then (each_as edit_of) (member_as as_array (codes "commit") members))
 
--- `{"ask": "file", "name": name}`
+-- the query of a file that this word says
+abbrev pub query_of : List ℕ → List ℕ → Option Query
+query_of ask name =
+    if bytes_eq ask (codes "file") then Some (File name)
+    else if bytes_eq ask (codes "expand") then Some (Expand name)
+    else None
+
+-- `{"ask": "file", "name": name}` or `{"ask": "expand", "name": name}`
 abbrev pub ask_of : List ℕ → List ℕ → Option Command
-ask_of ask name = if bytes_eq ask (codes "file") then Some (Ask (File name) Latest None) else None
+ask_of ask name = option_map (λ query. Ask query Latest None) (query_of ask name)
 
 abbrev pub ask_with : Members → Option Command
 ask_with members =

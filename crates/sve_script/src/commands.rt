@@ -15,6 +15,9 @@ pub const MAX_FILES: usize = 2_048;
 pub enum Query {
     /// The text of the file of this name. The name is the bytes of a string, and may be that of no file.
     File { name: List<u8> },
+    /// The expanded text of the file of this name, as the preprocessor leaves it (IEEE 1800-2017, 22). Any file may be
+    /// asked for; the name is the bytes of a string, and may be that of no file.
+    Expand { name: List<u8> },
 }
 
 /// One command of a client.

@@ -6,7 +6,7 @@ ghost use Rattle.sve_script.specs.Shapes.{each_as};
 ghost use Rattle.sve_text.specs.Files.{TextsFit};
 ghost use Rattle.sve_script.specs.Distinct.{have_distinct_names};
 ghost use Rattle.sve_script.specs.Fits.{ClientsFit};
-ghost use Rattle.sve_script.specs.Session.{IsSession, IsLater, IsNotJson, put_of, edit_with, edit_of, commit_with, ask_with, command_with, command_of, client_of, edit_count, file_of, opening_file_of, is_in_limits, script_from, script_with, script_of};
+ghost use Rattle.sve_script.specs.Session.{IsSession, IsLater, IsNotJson, put_of, edit_with, edit_of, commit_with, query_of, ask_with, command_with, command_of, client_of, edit_count, file_of, opening_file_of, is_in_limits, script_from, script_with, script_of};
 
 use crate::commands::{BadSession, Command, MAX_COMMANDS, MAX_EDITS, MAX_FILES, Query, Script};
 use crate::member::{Object, has_both, has_only, items_under, text_under};
@@ -101,22 +101,38 @@ fn commit(alloc: Global, members: &Object) -> Taken<Command>
     }
 }
 
-/// The command `{"ask": "file", "name": name}`. Any string may be the name, also one that no file can have.
+/// The query that a word says, `file` or `expand`. Any string may be the name, also one that no file can have.
+fn query(alloc: Global, ask: &str, name: &str) -> Taken<Query>
+    ensures { IfOk result (λ o. o ≡ query_of ask.now name.now) }
+{
+    match ask {
+        "file" => Ok(Some(Query::File {
+            name: List::of(Vec::from_slice(alloc, name.as_bytes())?),
+        })),
+        "expand" => Ok(Some(Query::Expand {
+            name: List::of(Vec::from_slice(alloc, name.as_bytes())?),
+        })),
+        _ => Ok(None),
+    }
+}
+
+/// The command `{"ask": word, "name": name}`.
 fn ask(alloc: Global, members: &Object) -> Taken<Command>
     ensures { IfOk result (λ o. o ≡ ask_with (members_view members.now.entries)) }
 {
     if !has_both(members, "ask", "name") {
         return Ok(None);
     }
-    match (text_under(members, "ask"), text_under(members, "name")) {
-        (Some("file"), Some(name)) => Ok(Some(Command::Ask {
-            query: Query::File {
-                name: List::of(Vec::from_slice(alloc, name.as_bytes())?),
-            },
+    let (Some(word), Some(name)) = (text_under(members, "ask"), text_under(members, "name")) else {
+        return Ok(None);
+    };
+    match query(alloc, word, name)? {
+        Some(query) => Ok(Some(Command::Ask {
+            query,
             mode: Mode::Latest,
             budget: None,
         })),
-        _ => Ok(None),
+        None => Ok(None),
     }
 }
 

@@ -6,7 +6,7 @@ use sve_bytes::Name;
 use sve_text::{Edit, Mode};
 
 /// Sessions, and what `written` writes of each.
-const SESSIONS: [(&str, &str); 8] = [
+const SESSIONS: [(&str, &str); 10] = [
     ("{\"files\":[],\"clients\":[[]]}", "end\n"),
     (
         " {\r\n\t\"clients\" : [ [ ] ] , \"files\" : [ ]\n} ",
@@ -35,6 +35,14 @@ const SESSIONS: [(&str, &str); 8] = [
     (
         "{\"files\":[],\"clients\":[[{\"\\u0061sk\":\"\\u0066ile\",\"name\":\"a\"}]]}",
         "file a;\nend\n",
+    ),
+    (
+        "{\"files\":[],\"clients\":[[{\"ask\":\"expand\",\"name\":\"a.sv\"},{\"name\":\"\",\"ask\":\"\\u0065xpand\"}]]}",
+        "expand a.sv;\nexpand ;\nend\n",
+    ),
+    (
+        "{\"files\":[],\"clients\":[[{\"ask\":\"file\",\"name\":\"expand\"},{\"ask\":\"expand\",\"name\":\"file\"}]]}",
+        "file expand;\nexpand file;\nend\n",
     ),
 ];
 
@@ -90,7 +98,7 @@ const NO_COMMANDS: [&str; 27] = [
     "{\"ask\":\"fil\",\"name\":\"a\"}",
     "{\"ask\":\"files\",\"name\":\"a\"}",
     "{\"ask\":\"File\",\"name\":\"a\"}",
-    "{\"ask\":\"expand\",\"name\":\"a\"}",
+    "{\"ask\":\"expand\"}",
     "{\"ask\":\"tops\"}",
     "{\"ask\":\"file\",\"path\":\"a\"}",
     "{\"ask\":\"file\",\"name\":\"a\",\"mode\":\"latest\"}",
@@ -295,11 +303,15 @@ fn write_command(out: &mut Vec<u8>, command: &Command) -> Result<(), AllocError>
             }
         }
         Command::Ask {
-            query: Query::File { name },
+            query,
             mode,
             budget,
         } => {
-            out.extend_from_slice(b"file ")?;
+            let (word, name) = match query {
+                Query::File { name } => (b"file ".as_slice(), name),
+                Query::Expand { name } => (b"expand ".as_slice(), name),
+            };
+            out.extend_from_slice(word)?;
             out.extend_from_slice(name.items())?;
             let is_plain = *mode == Mode::Latest && budget.is_none();
             out.extend_from_slice(if is_plain { b";" } else { b"?" })?;
