@@ -54,13 +54,6 @@ fn expect_file(
         (None, None) => {}
         _ => assert!(rt; false, "whether {name} is there"),
     }
-    match (files.shared_text(&key)?, text) {
-        (Some(shared), Some(text)) => {
-            assert_eq!(rt; shared.items(), text, "the shared text of {name}");
-        }
-        (None, None) => {}
-        _ => assert!(rt; false, "whether {name} can be shared"),
-    }
     Ok(())
 }
 

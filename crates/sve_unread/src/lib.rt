@@ -8,6 +8,3 @@ mod frame;
 mod stack;
 
 pub use stack::Stack;
-
-#[cfg(test)]
-mod tests;
