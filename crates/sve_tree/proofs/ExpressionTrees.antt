@@ -1,10 +1,11 @@
 -- The tree of each variant: expressions.
 use Rattle.std.specs.Global.{Box, Vec}
-use Rattle.std.proofs.Common.{ℕ, zero, suc, ◌-◌, List, [], ◌∷◌, ◌++◌, Option, ◌≡◌, ◌⊎◌, refl, ap, ◌∙◌, arith, inl, inr, ltb, true, ◌<◌, ◌≤◌}
+use Rattle.std.proofs.Common.{ℕ, zero, suc, ◌-◌, Bool, true, false, List, [], ◌∷◌, ◌++◌, length, Option, ◌≡◌, refl, ap, ◌∙◌, arith, ltb, eqb, ◌<◌, ◌≤◌}
+use Rattle.std.specs.Prelude.{◌&&◌}
 use Rattle.sve_grammar.specs.Reading.{Tree, leaf, none, left, right, turn, ended}
 use Rattle.sve_tree.specs.Shape.{◌▸◌, way, final, optional_tree, repeated_tree, word_tree}
 use denote.Hole.Carrier.{roll}
-use Rattle.std.proofs.lemmas.Bool.{lt-ltb}
+use Rattle.std.proofs.lemmas.Bool.{lt-ltb, eqb-true, eq-eqb}
 use Rattle.sve_tree.proofs.Shapes.{raise_up, raise_same}
 use Rattle.sve_tree.specs.declared.word.Word.{Word}
 use Rattle.sve_tree.specs.declared.word.Sign.{Sign}
@@ -15,7 +16,7 @@ use Rattle.sve_tree.specs.declared.word.BinaryOperator.{BinaryOperator}
 use Rattle.sve_tree.specs.declared.word.ImplicationOperator.{ImplicationOperator}
 use Rattle.sve_tree.specs.declared.word.ScopedName.{ScopedName}
 use Rattle.sve_tree.specs.declared.expression.Expr.{Expr, Row_of-Dimension, Row_of-NextExpression, Row_of-Operation, Row_of-Postfix, Row_of-RangeSelect, Row_of-Select, end_of-Dimension, end_of-NextExpression, end_of-Operation, end_of-Postfix, end_of-RangeSelect, end_of-Select, items-the_row-Dimension, items-the_row-NextExpression, items-the_row-Operation, items-the_row-Postfix, items-the_row-RangeSelect, items-the_row-Select, more_of-Dimension, more_of-NextExpression, more_of-Operation, more_of-Postfix, more_of-RangeSelect, more_of-Select}
-use Rattle.sve_tree.specs.Expressions.{own, operation_tree, parenthesized_tree, cast_tree, next_expression_tree, dimension_tree, range_tree, range_select_tree, select_tree, postfix_tree, argument_list_tree, arg_tree, next_argument_tree, value_range_tree, next_value_range_tree, pattern_tree, pattern_item_tree, next_pattern_item_tree, tree_at, raise, height, level_of, operation_level, operation_row_level, chain_level, operation_way, dimension_row, next_argument_row, next_expression_row, next_pattern_item_row, next_value_range_row, operation_row, postfix_row, range_select_row, select_row}
+use Rattle.sve_tree.specs.Expressions.{own, operation_tree, parenthesized_tree, cast_tree, next_expression_tree, dimension_tree, range_tree, range_select_tree, select_tree, postfix_tree, argument_list_tree, arg_tree, next_argument_tree, value_range_tree, next_value_range_tree, pattern_tree, pattern_item_tree, next_pattern_item_tree, tree_at, raise, in_place, height, level_of, operation_level, operation_row_level, chain_level, all_of_level, row_of_level, is_chain_row, operation_way, dimension_row, next_argument_row, next_expression_row, next_pattern_item_row, next_value_range_row, operation_row, postfix_row, range_select_row, select_row}
 use Rattle.sve_tree.specs.declared.expression.Operation.{Operation, Row_of-NextValueRange, end_of-NextValueRange, items-the_row-NextValueRange, more_of-NextValueRange}
 use Rattle.sve_tree.specs.declared.expression.Parenthesized.{Parenthesized}
 use Rattle.sve_tree.specs.declared.expression.Cast.{Cast}
@@ -362,15 +363,45 @@ operation_row_level_is (more_of-Operation operation rest) = refl
 pub height_operations : (first : Box Expr) (rest : Vec Operation) → height (is_expr.Operations first rest) ≡ chain_level rest.items
 height_operations first rest = operation_row_level_is (hidden-the_row-Operation-5 rest) ∙ ap chain_level (items_hidden-the_row-Operation-5 rest)
 
--- a chain of operators, at its own level
-pub operations_expr : (n : ℕ) (first : Box Expr) (rest : Vec Operation) → chain_level rest.items ≡ n → tree_at n (is_expr.Operations first rest) ≡ tree_at (n - 1) first.value ▸ repeated_tree operation_tree rest.items
-unfolding own
-operations_expr n first rest e =
-    let h : operation_row_level (hidden-the_row-Operation-5 rest) ≡ n = height_operations first rest ∙ e in
-    rw (h, raise_same n (raise (n - 1) (height first.value) (own first.value) ▸ operation_row (hidden-the_row-Operation-5 rest))) (ap (λ (t : Tree). tree_at (n - 1) first.value ▸ t) (operation_row_of rest))
+row_of_level_is : {n : _} (level : ℕ) (row : Row_of-Operation n) → row_of_level level row ≡ all_of_level level (items-the_row-Operation n row)
+row_of_level_is level end_of-Operation = refl
+row_of_level_is level (more_of-Operation operation rest) = ap (λ (b : Bool). eqb (operation_level operation) level && b) (row_of_level_is level rest)
 
--- a further operation leaves the level of a chain
-pub chain_level_push : (xs : List Operation) (x : Operation) (n : ℕ) → operation_level x ≡ n → (chain_level xs ≡ n) ⊎ (xs ≡ []) → chain_level (xs ++ x ∷ []) ≡ n
-chain_level_push [] x n e p = e
-chain_level_push (y ∷ ys) x n e (inl p) = p
-chain_level_push (y ∷ ys) x n e (inr p) = cc
+both_true : (a b : Bool) → (a && b) ≡ true → (a ≡ true) × (b ≡ true)
+both_true true b h = (refl, h)
+both_true false b h = absurd cc
+
+-- operations of one level, one of them at least, are a chain of that level
+chain_row_is : {n : _} (level : ℕ) (row : Row_of-Operation n) → all_of_level level (items-the_row-Operation n row) ≡ true → 0 < length (items-the_row-Operation n row) → (operation_row_level row ≡ level) × (is_chain_row row ≡ true)
+chain_row_is level end_of-Operation h p = absurd (omega arith)
+chain_row_is level (more_of-Operation operation rest) h p =
+    let b = both_true (eqb (operation_level operation) level) (all_of_level level (items-the_row-Operation _ rest)) h in
+    let e : operation_level operation ≡ level = eqb-true (operation_level operation) level b.0 in
+    (e, row_of_level_is (operation_level operation) rest ∙ rw e b.1)
+
+-- a chain of operators, at its own level
+pub operations_expr : (level : ℕ) (first : Box Expr) (rest : Vec Operation) → all_of_level level rest.items ≡ true → 0 < length rest.items → tree_at level (is_expr.Operations first rest) ≡ tree_at (level - 1) first.value ▸ repeated_tree operation_tree rest.items
+unfolding own
+operations_expr level first rest h p =
+    let row = hidden-the_row-Operation-5 rest in
+    let e = items_hidden-the_row-Operation-5 rest in
+    let c = chain_row_is level row (rw e h) (rw e p) in
+    rw (c.0, c.1, raise_same level (raise (level - 1) (height first.value) (own first.value) ▸ operation_row row)) (ap (λ (t : Tree). tree_at (level - 1) first.value ▸ t) (operation_row_of rest))
+
+-- the level of such a chain
+pub chain_level_is : (level : ℕ) (first : Box Expr) (rest : Vec Operation) → all_of_level level rest.items ≡ true → 0 < length rest.items → height (is_expr.Operations first rest) ≡ level
+chain_level_is level first rest h p =
+    let e = items_hidden-the_row-Operation-5 rest in
+    (chain_row_is level (hidden-the_row-Operation-5 rest) (rw e h) (rw e p)).0
+
+-- a further operation of the same level
+pub all_of_level_push : (level : ℕ) (xs : List Operation) (x : Operation) → all_of_level level xs ≡ true → operation_level x ≡ level → all_of_level level (xs ++ x ∷ []) ≡ true
+all_of_level_push level [] x h e = rw (e, eq-eqb level level refl) refl
+all_of_level_push level (y ∷ ys) x h e =
+    let b = both_true (eqb (operation_level y) level) (all_of_level level ys) h in
+    rw (b.0, all_of_level_push level ys x b.1 e) refl
+
+-- the tokens of a chain do not hang on its levels
+pub own_operations : (first : Box Expr) (rest : Vec Operation) → (fits : Bool) × (own (is_expr.Operations first rest) ≡ in_place fits (tree_at (chain_level rest.items - 1) first.value ▸ repeated_tree operation_tree rest.items))
+unfolding own
+own_operations first rest = (is_chain_row (hidden-the_row-Operation-5 rest), rw (operation_row_level_is (hidden-the_row-Operation-5 rest), items_hidden-the_row-Operation-5 rest, operation_row_of rest) refl)

@@ -4,7 +4,7 @@ use Rattle.std.proofs.Common.{ℕ, zero, suc, ◌-◌, List, [], ◌∷◌, ◌+
 use Rattle.sve_grammar.specs.Reading.{Tree, leaf, none, pair, left, right, ended, leaves}
 use Rattle.sve_tree.specs.Shape.{◌▸◌, way, final, optional_tree, repeated_tree, word_tree}
 use Rattle.std.proofs.lemmas.List.{append-nil}
-use Rattle.sve_tree.proofs.ExpressionTrees.{decimal_expr, sized_expr, size_cast_expr, based_expr, unbased_expr, text_expr, parenthesized_expr, parenthesized_cast_expr, pattern_expr, replication_expr, concatenation_expr, sign_cast_expr, type_expr, type_cast_expr, system_name_expr, system_call_expr, name_expr, unary_expr, operations_expr, conditional_expr, implication_expr, binary_operation, inside_operation, size_dimension, range_dimension, index_range, between_range, upward_range, downward_range, member_select, range_select, select_postfix, call_postfix, cast_postfix, pattern_postfix, argument_list_made, wildcard_arg, implicit_arg, unconnected_arg, named_arg, ordered_arg, empty_arg, between_value_range, value_value_range, pattern_made, default_pattern_item, value_pattern_item, keyed_pattern_item, repeated_pattern_item}
+use Rattle.sve_tree.proofs.ExpressionTrees.{decimal_expr, sized_expr, size_cast_expr, based_expr, unbased_expr, text_expr, parenthesized_expr, parenthesized_cast_expr, pattern_expr, replication_expr, concatenation_expr, sign_cast_expr, type_expr, type_cast_expr, system_name_expr, system_call_expr, name_expr, unary_expr, own_operations, conditional_expr, implication_expr, binary_operation, inside_operation, size_dimension, range_dimension, index_range, between_range, upward_range, downward_range, member_select, range_select, select_postfix, call_postfix, cast_postfix, pattern_postfix, argument_list_made, wildcard_arg, implicit_arg, unconnected_arg, named_arg, ordered_arg, empty_arg, between_value_range, value_value_range, pattern_made, default_pattern_item, value_pattern_item, keyed_pattern_item, repeated_pattern_item}
 use Rattle.sve_tree.proofs.TypeTrees.{atom_data_type, vector_data_type, text_data_type, enum_data_type, struct_data_type, structure_made, written_type_ref, named_type_ref, written_name_type_ref, signed_name_type_ref, ranged_name_type_ref, scoped_name_type_ref, named_name_type_ref, bare_name_type_ref}
 use Rattle.sve_tree.proofs.LeftSideTrees.{name_left_side, concatenation_left_side, left_concatenation_made}
 use Rattle.sve_tree.proofs.StatementTrees.{empty_stmt, block_stmt, if_stmt, case_stmt, for_stmt, foreach_stmt, loop_stmt, do_stmt, return_stmt, break_stmt, continue_stmt, system_task_stmt, void_call_stmt, step_stmt, concatenation_stmt, name_stmt, local_block_item, variable_block_item, data_block_item, parameters_block_item, typedef_block_item, named_data_block_item, name_block_item, statement_block_item, if_statement_made, default_case_item, labels_case_item}
@@ -34,7 +34,7 @@ use Rattle.sve_tree.specs.declared.word.Edge.{Edge}
 use Rattle.sve_tree.specs.declared.word.EventSeparator.{EventSeparator}
 use Rattle.sve_tree.specs.declared.word.ModuleKeyword.{ModuleKeyword}
 use Rattle.sve_tree.specs.declared.expression.Expr.{Expr}
-use Rattle.sve_tree.specs.Expressions.{own, operation_tree, parenthesized_tree, cast_tree, next_expression_tree, dimension_tree, range_tree, range_select_tree, select_tree, postfix_tree, argument_list_tree, arg_tree, next_argument_tree, value_range_tree, next_value_range_tree, pattern_tree, pattern_item_tree, next_pattern_item_tree, tree_at, raise, height, level_of, chain_level}
+use Rattle.sve_tree.specs.Expressions.{own, operation_tree, parenthesized_tree, cast_tree, next_expression_tree, dimension_tree, range_tree, range_select_tree, select_tree, postfix_tree, argument_list_tree, arg_tree, next_argument_tree, value_range_tree, next_value_range_tree, pattern_tree, pattern_item_tree, next_pattern_item_tree, tree_at, raise, in_place, height, level_of, chain_level}
 use Rattle.sve_tree.specs.declared.expression.Operation.{Operation}
 use Rattle.sve_tree.specs.declared.expression.Parenthesized.{Parenthesized}
 use Rattle.sve_tree.specs.declared.expression.Cast.{Cast}
@@ -289,9 +289,13 @@ integer_keyword_leaves (is_integer_keyword.Vector k) i = vector_keyword_leaves k
 
 -- ---- shapes
 
+in_place_leaves : (fits : Bool) (t : Tree) → leaves (in_place fits t) ≡ leaves t
+in_place_leaves true t = refl
+in_place_leaves false t = append-nil (leaves t)
+
 pub raise_leaves : (n h : ℕ) (t : Tree) → leaves (raise n h t) ≡ leaves t
 unfolding raise
-raise_leaves zero h t = refl
+raise_leaves zero h t = in_place_leaves (eqb h 0) t
 raise_leaves (suc n) h t = go (eqb h (suc n)) (ltb n 11) (raise n h t) (raise_leaves n h t)
   where
     go : (b c : Bool) (u : Tree) → leaves u ≡ leaves t → leaves (cond b t (cond c (pair u ended) (pair u (right none)))) ≡ leaves t
@@ -384,8 +388,10 @@ unary_expr_leaves operator at operand = level_leaves 13 0 (is_expr.Unary operato
 
 pub operations_expr_leaves : (first : Box Expr) (rest : Vec Operation) → leaves (tree_at 13 (is_expr.Operations first rest)) ≡ leaves (tree_at 13 first.value) ++ leaves (repeated_tree operation_tree rest.items)
 operations_expr_leaves first rest =
-    level_leaves 13 (chain_level rest.items) (is_expr.Operations first rest)
-    ∙ ap leaves (operations_expr (chain_level rest.items) first rest refl)
+    let o = own_operations first rest in
+    raise_leaves 13 (height (is_expr.Operations first rest)) (own (is_expr.Operations first rest))
+    ∙ ap leaves o.1
+    ∙ in_place_leaves o.0 (tree_at (chain_level rest.items - 1) first.value ▸ repeated_tree operation_tree rest.items)
     ∙ ap (λ (xs : List ℕ). xs ++ leaves (repeated_tree operation_tree rest.items)) (level_leaves (chain_level rest.items - 1) 13 first.value)
 
 pub conditional_expr_leaves : (condition : Box Expr) (question : ℕ) (chosen : Box Expr) (colon : ℕ) (otherwise : Box Expr) → leaves (tree_at 13 (is_expr.Conditional condition question chosen colon otherwise)) ≡ leaves (tree_at 13 condition.value ▸ left (leaf question ▸ tree_at 13 chosen.value ▸ leaf colon ▸ tree_at 13 otherwise.value))

@@ -1,6 +1,6 @@
 -- The trees of expressions (IEEE 1800-2017, A.8 and A.2.5).
 use Rattle.std.specs.Global.{Box}
-use Rattle.std.specs.Prelude.{ℕ, zero, suc, ◌-◌, List, [], ◌∷◌, ◌==◌, nat_lt, if◌then◌else◌}
+use Rattle.std.specs.Prelude.{ℕ, zero, suc, ◌-◌, Bool, true, false, ◌&&◌, List, [], ◌∷◌, ◌==◌, nat_lt, if◌then◌else◌}
 use Rattle.sve_grammar.specs.Reading.{Tree, leaf, none, pair, left, right, turn, ended}
 use Rattle.sve_tree.specs.Shape.{◌▸◌, way, final, optional_tree, word_tree}
 use Rattle.sve_tree.specs.Words.{sign_tree, integer_keyword_tree, unary_operator_tree, binary_operator_tree, implication_operator_tree, scoped_name_tree}
@@ -78,6 +78,20 @@ abbrev pub operation_row_level : {n : _} → Row_of-Operation n → ℕ
 operation_row_level end_of-Operation = 0
 operation_row_level (more_of-Operation operation rest) = operation_level operation
 
+-- every operation is of this level
+abbrev pub all_of_level : ℕ → List Operation → Bool
+all_of_level level [] = true
+all_of_level level (operation ∷ rest) = operation_level operation == level && all_of_level level rest
+
+abbrev pub row_of_level : {n : _} → ℕ → Row_of-Operation n → Bool
+row_of_level level end_of-Operation = true
+row_of_level level (more_of-Operation operation rest) = operation_level operation == level && row_of_level level rest
+
+-- a chain has an operation, and all its operations are of one level
+abbrev pub is_chain_row : {n : _} → Row_of-Operation n → Bool
+is_chain_row end_of-Operation = false
+is_chain_row (more_of-Operation operation rest) = row_of_level (operation_level operation) rest
+
 -- the level at which an expression stands: 0 for operands, 1 to 11 for chains of operators, 12 and 13 for what stands above
 abbrev pub height : Expr → ℕ
 height (is_expr.Decimal token) = 0
@@ -106,14 +120,22 @@ height (is_expr.Implication' _ l operator at _ r) = 13
 abbrev pub wrap : ℕ → Tree → Tree
 wrap n t = if nat_lt n 11 then pair t ended else pair t (right none)
 
--- what stands at level h, at level n
+-- What the grammar has no place for. No reading gives such a tree, so that no tree of a parser is shown as one; its tokens are there.
+abbrev pub misplaced : Tree → Tree
+misplaced t = turn t none
+
+-- what stands at level h, at level n; nothing stands below its own level
 unfoldable pub raise : ℕ → ℕ → Tree → Tree
-raise zero h t = t
+raise zero h t = if h == 0 then t else misplaced t
 raise (suc n) h t = if h == suc n then t else wrap n (raise n h t)
 
 -- an operator with its right operand; on the level of the comparisons by order `inside` is the other alternative
 abbrev pub operation_way : BinaryOperator → Tree → Tree
 operation_way operator t = if level_of operator == 5 then left t else t
+
+-- a tree that fits where it stands, or one that does not
+abbrev pub in_place : Bool → Tree → Tree
+in_place fits t = if fits then t else misplaced t
 
 unfoldable mutual
   pub own : Expr → Tree
@@ -135,7 +157,7 @@ unfoldable mutual
   own (is_expr.SystemCall' name arguments _ selects) = right (way 9 (leaf name ▸ left (argument_list_tree arguments) ▸ select_row selects))
   own (is_expr.Name' name _ postfixes) = right (final 10 (scoped_name_tree name ▸ postfix_row postfixes))
   own (is_expr.Unary' operator at _ operand) = left (unary_operator_tree operator at ▸ raise 0 (height operand) (own operand))
-  own (is_expr.Operations' _ first _ rest) = raise (operation_row_level rest - 1) (height first) (own first) ▸ operation_row rest
+  own (is_expr.Operations' _ first _ rest) = in_place (is_chain_row rest) (raise (operation_row_level rest - 1) (height first) (own first) ▸ operation_row rest)
   own (is_expr.Conditional' _ condition question _ chosen colon _ otherwise) = raise 11 (height condition) (own condition) ▸ left (leaf question ▸ raise 13 (height chosen) (own chosen) ▸ leaf colon ▸ raise 12 (height otherwise) (own otherwise))
   own (is_expr.Implication' _ l operator at _ r) = raise 12 (height l) (own l) ▸ left (implication_operator_tree operator at ▸ raise 13 (height r) (own r))
 
