@@ -1,0 +1,115 @@
+-- Nothing is lost where trees of a chunk are seen as readings.
+use Rattle.std.proofs.Common.{ℕ}
+use Rattle.sve_tree.specs.Expressions.{dimension_tree, range_tree, select_tree, argument_list_tree, arg_tree, pattern_tree, tree_at}
+use Rattle.sve_tree.specs.Types.{named_type_tree, initializer_tree, declarator_tree, data_type_tree, type_ref_tree}
+use Rattle.sve_tree.specs.Declarations.{parameters_tree, typedef_tree, import_tree, modport_tree, decl_tree, declaration_end_tree, header_tree}
+use Rattle.sve_tree.specs.Statements.{left_side_tree, stmt_tree, block_item_tree, func_tree}
+use Rattle.sve_tree.specs.Items.{item_tree}
+use Rattle.sve_tree.specs.Elements.{unit_item_tree, design_tree, element_tree}
+use Rattle.sve_outline.specs.Expressions.{expr_outline, dimension_outline, range_outline, select_outline, argument_list_outline, arg_outline, pattern_outline}
+use Rattle.sve_outline.proofs.ReadExpressions.{read_expr, expr_read, read_dimension, dimension_read, read_range, range_read, read_select, select_read, read_argument_list, argument_list_read, read_arg, arg_read, read_pattern, pattern_read}
+use Rattle.sve_outline.specs.Types.{named_type_outline, initializer_outline, declarator_outline, data_type_outline, type_ref_outline}
+use Rattle.sve_outline.proofs.ReadTypes.{read_named_type, named_type_read, read_initializer, initializer_read, read_declarator, declarator_read, read_data_type, data_type_read, read_type_ref, type_ref_read}
+use Rattle.sve_outline.specs.Declarations.{parameters_outline, typedef_outline, import_outline, modport_outline, declaration_end_outline, header_outline, decl_outline}
+use Rattle.sve_outline.proofs.ReadDeclarations.{read_parameters, parameters_read, read_typedef, typedef_read, read_import, import_read, read_modport, modport_read, read_declaration_end, declaration_end_read, read_header, header_read, read_decl, decl_read}
+use Rattle.sve_outline.specs.Statements.{left_side_outline, stmt_outline, block_item_outline, func_outline}
+use Rattle.sve_outline.proofs.ReadStatements.{read_left_side, left_side_read, read_stmt, stmt_read, read_block_item, block_item_read, read_func, func_read}
+use Rattle.sve_outline.specs.Items.{item_outline}
+use Rattle.sve_outline.proofs.ReadItems.{read_item, item_read}
+use Rattle.sve_outline.specs.Elements.{unit_item_outline, design_outline, element_outline}
+use Rattle.sve_outline.proofs.ReadElements.{read_unit_item, unit_item_read, read_design, design_read, read_element, element_read}
+use Rattle.sve_outline.specs.Outline.{IsKept}
+use Rattle.sve_outline.proofs.Kept.{kept}
+
+-- ---- expressions
+
+pub expr_kept : (level : ℕ) → IsKept (tree_at level) expr_outline
+expr_kept level = kept (tree_at level) expr_outline (read_expr level) (expr_read level)
+
+pub argument_list_kept : IsKept argument_list_tree argument_list_outline
+argument_list_kept = kept argument_list_tree argument_list_outline read_argument_list argument_list_read
+
+pub arg_kept : IsKept arg_tree arg_outline
+arg_kept = kept arg_tree arg_outline read_arg arg_read
+
+pub dimension_kept : IsKept dimension_tree dimension_outline
+dimension_kept = kept dimension_tree dimension_outline read_dimension dimension_read
+
+pub range_kept : IsKept range_tree range_outline
+range_kept = kept range_tree range_outline read_range range_read
+
+pub select_kept : IsKept select_tree select_outline
+select_kept = kept select_tree select_outline read_select select_read
+
+pub pattern_kept : IsKept pattern_tree pattern_outline
+pattern_kept = kept pattern_tree pattern_outline read_pattern pattern_read
+
+-- ---- types
+
+pub data_type_kept : IsKept data_type_tree data_type_outline
+data_type_kept = kept data_type_tree data_type_outline read_data_type data_type_read
+
+pub named_type_kept : IsKept named_type_tree named_type_outline
+named_type_kept = kept named_type_tree named_type_outline read_named_type named_type_read
+
+pub type_ref_kept : IsKept type_ref_tree type_ref_outline
+type_ref_kept = kept type_ref_tree type_ref_outline read_type_ref type_ref_read
+
+pub declarator_kept : IsKept declarator_tree declarator_outline
+declarator_kept = kept declarator_tree declarator_outline read_declarator declarator_read
+
+pub initializer_kept : IsKept initializer_tree initializer_outline
+initializer_kept = kept initializer_tree initializer_outline read_initializer initializer_read
+
+-- ---- declarations
+
+pub decl_kept : IsKept decl_tree decl_outline
+decl_kept = kept decl_tree decl_outline read_decl decl_read
+
+pub parameters_kept : IsKept parameters_tree parameters_outline
+parameters_kept = kept parameters_tree parameters_outline read_parameters parameters_read
+
+pub typedef_kept : IsKept typedef_tree typedef_outline
+typedef_kept = kept typedef_tree typedef_outline read_typedef typedef_read
+
+pub import_kept : IsKept import_tree import_outline
+import_kept = kept import_tree import_outline read_import import_read
+
+pub modport_kept : IsKept modport_tree modport_outline
+modport_kept = kept modport_tree modport_outline read_modport modport_read
+
+pub declaration_end_kept : IsKept declaration_end_tree declaration_end_outline
+declaration_end_kept = kept declaration_end_tree declaration_end_outline read_declaration_end declaration_end_read
+
+pub header_kept : IsKept header_tree header_outline
+header_kept = kept header_tree header_outline read_header header_read
+
+-- ---- statements
+
+pub left_side_kept : IsKept left_side_tree left_side_outline
+left_side_kept = kept left_side_tree left_side_outline read_left_side left_side_read
+
+pub stmt_kept : IsKept stmt_tree stmt_outline
+stmt_kept = kept stmt_tree stmt_outline read_stmt stmt_read
+
+pub block_item_kept : IsKept block_item_tree block_item_outline
+block_item_kept = kept block_item_tree block_item_outline read_block_item block_item_read
+
+pub func_kept : IsKept func_tree func_outline
+func_kept = kept func_tree func_outline read_func func_read
+
+-- ---- items
+
+pub item_kept : IsKept item_tree item_outline
+item_kept = kept item_tree item_outline read_item item_read
+
+-- ---- elements
+
+pub unit_item_kept : IsKept unit_item_tree unit_item_outline
+unit_item_kept = kept unit_item_tree unit_item_outline read_unit_item unit_item_read
+
+pub design_kept : IsKept design_tree design_outline
+design_kept = kept design_tree design_outline read_design design_read
+
+pub element_kept : IsKept element_tree element_outline
+element_kept = kept element_tree element_outline read_element element_read

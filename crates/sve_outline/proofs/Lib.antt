@@ -1,0 +1,12 @@
+pub mod Whole
+pub mod Readers
+pub mod ReadWords
+pub mod ReadExpressions
+pub mod ReadTypes
+pub mod ReadDeclarations
+pub mod ReadStatements
+pub mod ReadItems
+pub mod ReadElements
+pub mod Kept
+pub mod Laws
+pub mod Rows
