@@ -7,6 +7,14 @@ pub mod ReadDeclarations
 pub mod ReadStatements
 pub mod ReadItems
 pub mod ReadElements
+pub mod Writers
+pub mod WriteWords
+pub mod WriteExpressions
+pub mod WriteTypes
+pub mod WriteDeclarations
+pub mod WriteStatements
+pub mod WriteItems
+pub mod WriteElements
 pub mod Kept
 pub mod Laws
 pub mod Rows

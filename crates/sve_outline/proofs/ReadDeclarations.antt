@@ -1,4 +1,4 @@
--- Reading back: what declarations and headers say (IEEE 1800-2017, A.1.2, A.1.3, A.2.1, A.2.6 and A.2.9).
+-- Declarations and headers, read back from their trees.
 use Rattle.sve_grammar.specs.Reading.{Tree, leaf, none, pair, left, right}
 use Rattle.std.proofs.Common.{ℕ, zero, suc, ◌≡◌, refl, ap, ◌∙◌}
 use Rattle.sve_tree.specs.declared.word.ParameterKeyword.{ParameterKeyword}
@@ -49,6 +49,8 @@ use Rattle.sve_tree.specs.declared.declaration.ImportItem.TheVariants as is_impo
 use Rattle.sve_tree.specs.declared.header.PortKind.TheVariants as is_port_kind
 use Rattle.sve_tree.specs.declared.header.PortType.TheVariants as is_port_type
 
+-- ---- next parameter
+
 pub read_next_parameter : Tree → Outline
 read_next_parameter (pair (leaf comma) (pair declarator x)) = token_at comma ◂ read_declarator declarator ◂ read_initializer x
 read_next_parameter t = no_more
@@ -56,6 +58,8 @@ read_next_parameter t = no_more
 pub next_parameter_read : (x : NextParameter) → IsWhole (next_parameter_tree x) → read_next_parameter (next_parameter_tree x) ≡ next_parameter_outline x
 unfolding read_next_parameter
 next_parameter_read x w = refl ◃ declarator_read x.declarator w.1.0 ◃ initializer_read x.value w.1.1
+
+-- ---- parameters
 
 pub read_parameters : Tree → Outline
 read_parameters (pair keyword (pair data_type (pair x (pair others (leaf semicolon))))) = read_parameter_keyword keyword ◂ read_type_ref data_type ◂ read_initializer x ◂ read_list read_next_parameter others ◂ token_at semicolon
@@ -65,6 +69,8 @@ pub parameters_read : (x : Parameters) → IsWhole (parameters_tree x) → read_
 unfolding read_parameters
 parameters_read x w = parameter_keyword_read x.keyword.kind x.keyword.token ◃ type_ref_read x.data_type w.1.0 ◃ initializer_read x.value w.1.1.0 ◃ list_read next_parameter_tree next_parameter_outline read_next_parameter next_parameter_read x.others.items w.1.1.1.0 ◃ refl
 
+-- ---- typedef
+
 pub read_typedef : Tree → Outline
 read_typedef (pair (leaf keyword) (pair data_type (pair declarator (leaf semicolon)))) = token_at keyword ◂ read_type_ref data_type ◂ read_declarator declarator ◂ token_at semicolon
 read_typedef t = no_more
@@ -72,6 +78,8 @@ read_typedef t = no_more
 pub typedef_read : (x : Typedef) → IsWhole (typedef_tree x) → read_typedef (typedef_tree x) ≡ typedef_outline x
 unfolding read_typedef
 typedef_read x w = refl ◃ type_ref_read x.data_type w.1.0 ◃ declarator_read x.declarator w.1.1.0 ◃ refl
+
+-- ---- import item
 
 pub read_import_item : Tree → Outline
 read_import_item (pair (leaf scope) (pair (leaf colons) (left (leaf name)))) = variant 0 ◂ token_at scope ◂ token_at colons ◂ token_at name
@@ -83,6 +91,8 @@ unfolding read_import_item
 import_item_read (is_import_item.Name scope colons name) w = refl ◃ refl ◃ refl ◃ refl
 import_item_read (is_import_item.All scope colons star) w = refl ◃ refl ◃ refl ◃ refl
 
+-- ---- next import item
+
 pub read_next_import_item : Tree → Outline
 read_next_import_item (pair (leaf comma) item) = token_at comma ◂ read_import_item item
 read_next_import_item t = no_more
@@ -90,6 +100,8 @@ read_next_import_item t = no_more
 pub next_import_item_read : (x : NextImportItem) → IsWhole (next_import_item_tree x) → read_next_import_item (next_import_item_tree x) ≡ next_import_item_outline x
 unfolding read_next_import_item
 next_import_item_read x w = refl ◃ import_item_read x.item w.1
+
+-- ---- import
 
 pub read_import : Tree → Outline
 read_import (pair (leaf keyword) (pair first (pair others (leaf semicolon)))) = token_at keyword ◂ read_import_item first ◂ read_list read_next_import_item others ◂ token_at semicolon
@@ -99,6 +111,8 @@ pub import_read : (x : Import) → IsWhole (import_tree x) → read_import (impo
 unfolding read_import
 import_read x w = refl ◃ import_item_read x.first w.1.0 ◃ list_read next_import_item_tree next_import_item_outline read_next_import_item next_import_item_read x.others.items w.1.1.0 ◃ refl
 
+-- ---- next modport member
+
 pub read_next_modport_member : Tree → Outline
 read_next_modport_member (pair (leaf comma) (pair direction (leaf name))) = token_at comma ◂ read_option read_dir direction ◂ token_at name
 read_next_modport_member t = no_more
@@ -106,6 +120,8 @@ read_next_modport_member t = no_more
 pub next_modport_member_read : (x : NextModportMember) → IsWhole (next_modport_member_tree x) → read_next_modport_member (next_modport_member_tree x) ≡ next_modport_member_outline x
 unfolding read_next_modport_member
 next_modport_member_read x w = refl ◃ option_read (word_tree dir_tree) (word_outline dir_place) read_dir (λ x _. dir_read x.kind x.token) x.direction w.1.0 ◃ refl
+
+-- ---- modport
 
 pub read_modport : Tree → Outline
 read_modport (pair (leaf name) (pair (leaf opening) (pair direction (pair (leaf first) (pair others (leaf closing)))))) = token_at name ◂ token_at opening ◂ read_dir direction ◂ token_at first ◂ read_list read_next_modport_member others ◂ token_at closing
@@ -115,6 +131,8 @@ pub modport_read : (x : Modport) → IsWhole (modport_tree x) → read_modport (
 unfolding read_modport
 modport_read x w = refl ◃ refl ◃ dir_read x.direction.kind x.direction.token ◃ refl ◃ list_read next_modport_member_tree next_modport_member_outline read_next_modport_member next_modport_member_read x.others.items w.1.1.1.1.0 ◃ refl
 
+-- ---- next declarator
+
 pub read_next_declarator : Tree → Outline
 read_next_declarator (pair (leaf comma) (pair declarator x)) = token_at comma ◂ read_declarator declarator ◂ read_option read_initializer x
 read_next_declarator t = no_more
@@ -122,6 +140,8 @@ read_next_declarator t = no_more
 pub next_declarator_read : (x : NextDeclarator) → IsWhole (next_declarator_tree x) → read_next_declarator (next_declarator_tree x) ≡ next_declarator_outline x
 unfolding read_next_declarator
 next_declarator_read x w = refl ◃ declarator_read x.declarator w.1.0 ◃ option_read initializer_tree initializer_outline read_initializer initializer_read x.value w.1.1
+
+-- ---- declaration end
 
 pub read_declaration_end : Tree → Outline
 read_declaration_end (pair x others) = read_option read_initializer x ◂ read_list read_next_declarator others
@@ -131,6 +151,8 @@ pub declaration_end_read : (x : DeclarationEnd) → IsWhole (declaration_end_tre
 unfolding read_declaration_end
 declaration_end_read x w = option_read initializer_tree initializer_outline read_initializer initializer_read x.value w.0 ◃ list_read next_declarator_tree next_declarator_outline read_next_declarator next_declarator_read x.others.items w.1
 
+-- ---- net declaration
+
 pub read_net_declaration : Tree → Outline
 read_net_declaration (pair net (pair data_type (pair end (leaf semicolon)))) = read_net net ◂ read_type_ref data_type ◂ read_declaration_end end ◂ token_at semicolon
 read_net_declaration t = no_more
@@ -138,6 +160,8 @@ read_net_declaration t = no_more
 pub net_declaration_read : (x : NetDeclaration) → IsWhole (net_declaration_tree x) → read_net_declaration (net_declaration_tree x) ≡ net_declaration_outline x
 unfolding read_net_declaration
 net_declaration_read x w = net_read x.net.kind x.net.token ◃ type_ref_read x.data_type w.1.0 ◃ declaration_end_read x.end w.1.1.0 ◃ refl
+
+-- ---- variable declaration
 
 pub read_variable_declaration : Tree → Outline
 read_variable_declaration (pair (leaf keyword) (pair data_type (pair end (leaf semicolon)))) = token_at keyword ◂ read_type_ref data_type ◂ read_declaration_end end ◂ token_at semicolon
@@ -147,6 +171,8 @@ pub variable_declaration_read : (x : VariableDeclaration) → IsWhole (variable_
 unfolding read_variable_declaration
 variable_declaration_read x w = refl ◃ type_ref_read x.data_type w.1.0 ◃ declaration_end_read x.end w.1.1.0 ◃ refl
 
+-- ---- data declaration
+
 pub read_data_declaration : Tree → Outline
 read_data_declaration (pair data_type (pair declarator (pair end (leaf semicolon)))) = read_data_type data_type ◂ read_declarator declarator ◂ read_declaration_end end ◂ token_at semicolon
 read_data_declaration t = no_more
@@ -154,6 +180,8 @@ read_data_declaration t = no_more
 pub data_declaration_read : (x : DataDeclaration) → IsWhole (data_declaration_tree x) → read_data_declaration (data_declaration_tree x) ≡ data_declaration_outline x
 unfolding read_data_declaration
 data_declaration_read x w = data_type_read x.data_type w.0 ◃ declarator_read x.declarator w.1.0 ◃ declaration_end_read x.end w.1.1.0 ◃ refl
+
+-- ---- parameter port
 
 pub read_parameter_port : Tree → Outline
 read_parameter_port (pair keyword (pair data_type x)) = read_option read_parameter_keyword keyword ◂ read_type_ref data_type ◂ read_option read_initializer x
@@ -163,6 +191,8 @@ pub parameter_port_read : (x : ParameterPort) → IsWhole (parameter_port_tree x
 unfolding read_parameter_port
 parameter_port_read x w = option_read (word_tree parameter_keyword_tree) (word_outline parameter_keyword_place) read_parameter_keyword (λ x _. parameter_keyword_read x.kind x.token) x.keyword w.0 ◃ type_ref_read x.data_type w.1.0 ◃ option_read initializer_tree initializer_outline read_initializer initializer_read x.value w.1.1
 
+-- ---- next parameter port
+
 pub read_next_parameter_port : Tree → Outline
 read_next_parameter_port (pair (leaf comma) port) = token_at comma ◂ read_parameter_port port
 read_next_parameter_port t = no_more
@@ -170,6 +200,8 @@ read_next_parameter_port t = no_more
 pub next_parameter_port_read : (x : NextParameterPort) → IsWhole (next_parameter_port_tree x) → read_next_parameter_port (next_parameter_port_tree x) ≡ next_parameter_port_outline x
 unfolding read_next_parameter_port
 next_parameter_port_read x w = refl ◃ parameter_port_read x.port w.1
+
+-- ---- parameter port list
 
 pub read_parameter_port_list : Tree → Outline
 read_parameter_port_list (pair first others) = read_parameter_port first ◂ read_list read_next_parameter_port others
@@ -179,6 +211,8 @@ pub parameter_port_list_read : (x : ParameterPortList) → IsWhole (parameter_po
 unfolding read_parameter_port_list
 parameter_port_list_read x w = parameter_port_read x.first w.0 ◃ list_read next_parameter_port_tree next_parameter_port_outline read_next_parameter_port next_parameter_port_read x.others.items w.1
 
+-- ---- parameter ports
+
 pub read_parameter_ports : Tree → Outline
 read_parameter_ports (pair (leaf hash) (pair (leaf opening) (pair list (leaf closing)))) = token_at hash ◂ token_at opening ◂ read_option read_parameter_port_list list ◂ token_at closing
 read_parameter_ports t = no_more
@@ -186,6 +220,8 @@ read_parameter_ports t = no_more
 pub parameter_ports_read : (x : ParameterPorts) → IsWhole (parameter_ports_tree x) → read_parameter_ports (parameter_ports_tree x) ≡ parameter_ports_outline x
 unfolding read_parameter_ports
 parameter_ports_read x w = refl ◃ refl ◃ option_read parameter_port_list_tree parameter_port_list_outline read_parameter_port_list parameter_port_list_read x.list w.1.1.0 ◃ refl
+
+-- ---- port kind
 
 pub read_port_kind : Tree → Outline
 read_port_kind (left (leaf keyword)) = variant 0 ◂ token_at keyword
@@ -196,6 +232,8 @@ pub port_kind_read : (x : PortKind) → IsWhole (port_kind_tree x) → read_port
 unfolding read_port_kind
 port_kind_read (is_port_kind.Variable keyword) w = refl ◃ refl
 port_kind_read (is_port_kind.Net net) w = refl ◃ net_read net.kind net.token
+
+-- ---- port type
 
 pub read_port_type : Tree → Outline
 read_port_type (left (pair data_type declarator)) = variant 0 ◂ read_data_type data_type ◂ read_declarator declarator
@@ -217,6 +255,8 @@ port_type_read (is_port_type.Modport interface dot modport declarator) w = refl 
 port_type_read (is_port_type.Named name dimensions declarator) w = refl ◃ refl ◃ list_read dimension_tree dimension_outline read_dimension dimension_read dimensions.items w.1.0 ◃ declarator_read declarator w.1.1
 port_type_read (is_port_type.Bare declarator) w = refl ◃ refl ◃ list_read dimension_tree dimension_outline read_dimension dimension_read declarator.dimensions.items w.1.0
 
+-- ---- port
+
 pub read_port : Tree → Outline
 read_port (pair direction (pair kind port_type)) = read_option read_dir direction ◂ read_option read_port_kind kind ◂ read_port_type port_type
 read_port t = no_more
@@ -224,6 +264,8 @@ read_port t = no_more
 pub port_read : (x : Port) → IsWhole (port_tree x) → read_port (port_tree x) ≡ port_outline x
 unfolding read_port
 port_read x w = option_read (word_tree dir_tree) (word_outline dir_place) read_dir (λ x _. dir_read x.kind x.token) x.direction w.0 ◃ option_read port_kind_tree port_kind_outline read_port_kind port_kind_read x.kind w.1.0 ◃ port_type_read x.port_type w.1.1
+
+-- ---- next port
 
 pub read_next_port : Tree → Outline
 read_next_port (pair (leaf comma) port) = token_at comma ◂ read_port port
@@ -233,6 +275,8 @@ pub next_port_read : (x : NextPort) → IsWhole (next_port_tree x) → read_next
 unfolding read_next_port
 next_port_read x w = refl ◃ port_read x.port w.1
 
+-- ---- port list
+
 pub read_port_list : Tree → Outline
 read_port_list (pair first others) = read_port first ◂ read_list read_next_port others
 read_port_list t = no_more
@@ -241,6 +285,8 @@ pub port_list_read : (x : PortList) → IsWhole (port_list_tree x) → read_port
 unfolding read_port_list
 port_list_read x w = port_read x.first w.0 ◃ list_read next_port_tree next_port_outline read_next_port next_port_read x.others.items w.1
 
+-- ---- ports
+
 pub read_ports : Tree → Outline
 read_ports (pair (leaf opening) (pair list (leaf closing))) = token_at opening ◂ read_option read_port_list list ◂ token_at closing
 read_ports t = no_more
@@ -248,6 +294,8 @@ read_ports t = no_more
 pub ports_read : (x : Ports) → IsWhole (ports_tree x) → read_ports (ports_tree x) ≡ ports_outline x
 unfolding read_ports
 ports_read x w = refl ◃ option_read port_list_tree port_list_outline read_port_list port_list_read x.list w.1.0 ◃ refl
+
+-- ---- header
 
 pub read_header : Tree → Outline
 read_header (pair lifetime (pair (leaf name) (pair imports (pair parameters (pair ports (leaf semicolon)))))) = read_option read_lifetime lifetime ◂ token_at name ◂ read_list read_import imports ◂ read_option read_parameter_ports parameters ◂ read_option read_ports ports ◂ token_at semicolon

@@ -1,4 +1,4 @@
--- Reading back: what chunks say (IEEE 1800-2017, A.1.2 and A.1.11).
+-- Chunks, read back from their trees.
 use Rattle.sve_grammar.specs.Reading.{Tree, leaf, pair, left, right}
 use Rattle.std.proofs.Common.{◌≡◌, refl}
 use Rattle.sve_tree.specs.Words.{lifetime_tree, label_tree}
@@ -23,6 +23,8 @@ use Rattle.sve_outline.specs.Elements.{unit_item_outline, module_outline, interf
 use Rattle.sve_tree.specs.declared.element.UnitItem.TheVariants as is_unit_item
 use Rattle.sve_tree.specs.declared.element.Design.TheVariants as is_design
 
+-- ---- unit item
+
 pub read_unit_item : Tree → Outline
 read_unit_item (left (leaf semicolon)) = variant 0 ◂ token_at semicolon
 read_unit_item (right (left declaration)) = variant 1 ◂ read_import declaration
@@ -39,6 +41,8 @@ unit_item_read (is_unit_item.Parameters declaration) w = refl ◃ parameters_rea
 unit_item_read (is_unit_item.Typedef declaration) w = refl ◃ typedef_read declaration.value w
 unit_item_read (is_unit_item.Function function) w = refl ◃ func_read function.value w
 
+-- ---- module
+
 pub read_module : Tree → Outline
 read_module (pair keyword (pair header (pair x (pair (leaf end) label)))) = read_module_keyword keyword ◂ read_header header ◂ read_list read_item x ◂ token_at end ◂ read_option read_label label
 read_module t = no_more
@@ -46,6 +50,8 @@ read_module t = no_more
 pub module_read : (x : Module) → IsWhole (module_tree x) → read_module (module_tree x) ≡ module_outline x
 unfolding read_module
 module_read x w = module_keyword_read x.keyword.kind x.keyword.token ◃ header_read x.header w.1.0 ◃ list_read item_tree item_outline read_item item_read x.items.items w.1.1.0 ◃ refl ◃ option_read label_tree label_outline read_label label_read x.label w.1.1.1.1
+
+-- ---- interface
 
 pub read_interface : Tree → Outline
 read_interface (pair (leaf keyword) (pair header (pair x (pair (leaf end) label)))) = token_at keyword ◂ read_header header ◂ read_list read_item x ◂ token_at end ◂ read_option read_label label
@@ -55,6 +61,8 @@ pub interface_read : (x : Interface) → IsWhole (interface_tree x) → read_int
 unfolding read_interface
 interface_read x w = refl ◃ header_read x.header w.1.0 ◃ list_read item_tree item_outline read_item item_read x.items.items w.1.1.0 ◃ refl ◃ option_read label_tree label_outline read_label label_read x.label w.1.1.1.1
 
+-- ---- package
+
 pub read_package : Tree → Outline
 read_package (pair (leaf keyword) (pair lifetime (pair (leaf name) (pair (leaf semicolon) (pair x (pair (leaf end) label)))))) = token_at keyword ◂ read_option read_lifetime lifetime ◂ token_at name ◂ token_at semicolon ◂ read_list read_unit_item x ◂ token_at end ◂ read_option read_label label
 read_package t = no_more
@@ -62,6 +70,8 @@ read_package t = no_more
 pub package_read : (x : Package) → IsWhole (package_tree x) → read_package (package_tree x) ≡ package_outline x
 unfolding read_package
 package_read x w = refl ◃ option_read (word_tree lifetime_tree) (word_outline lifetime_place) read_lifetime (λ x _. lifetime_read x.kind x.token) x.lifetime w.1.0 ◃ refl ◃ refl ◃ list_read unit_item_tree unit_item_outline read_unit_item unit_item_read x.items.items w.1.1.1.1.0 ◃ refl ◃ option_read label_tree label_outline read_label label_read x.label w.1.1.1.1.1.1
+
+-- ---- design
 
 pub read_design : Tree → Outline
 read_design (left unit) = variant 0 ◂ read_module unit
@@ -74,6 +84,8 @@ unfolding read_design
 design_read (is_design.Module unit) w = refl ◃ module_read unit.value w
 design_read (is_design.Interface unit) w = refl ◃ interface_read unit.value w
 design_read (is_design.Package unit) w = refl ◃ package_read unit.value w
+
+-- ---- element
 
 pub read_element : Tree → Outline
 read_element (pair x design) = read_list read_unit_item x ◂ read_option read_design design

@@ -1,4 +1,4 @@
--- Reading back: what expressions say (IEEE 1800-2017, A.8 and A.2.5).
+-- Expressions, read back from their trees.
 use Rattle.sve_grammar.specs.Reading.{Tree, leaf, none, pair, left, right, turn, ended}
 use Rattle.std.proofs.Common.{ℕ, zero, suc, ◌-◌, ◌≡◌, ◌<◌, refl, ◌∙◌, arith, Bool, true, false, cond, eqb, ltb, subst}
 use Rattle.sve_tree.specs.declared.word.BinaryOperator.{BinaryOperator}
@@ -38,6 +38,8 @@ use Rattle.sve_tree.specs.declared.expression.Postfix.TheVariants as is_postfix
 use Rattle.sve_tree.specs.declared.expression.Arg.TheVariants as is_arg
 use Rattle.sve_tree.specs.declared.expression.ValueRange.TheVariants as is_value_range
 use Rattle.sve_tree.specs.declared.expression.PatternItem.TheVariants as is_pattern_item
+
+-- ---- expressions and their parts
 
 mutual
   pub read_expr : ℕ → Tree → Outline
@@ -352,7 +354,8 @@ mutual
   next_pattern_item_row_read end_of-NextPatternItem w = refl
   next_pattern_item_row_read (more_of-NextPatternItem comma item rest) w = (refl ◃ pattern_item_read item w.0.1) ◃ next_pattern_item_row_read rest w.1
 
--- an expression at a level
+-- ---- an expression at a level
+
 pub expr_read : (level : ℕ) (e : Expr) → IsWhole (tree_at level e) → read_expr level (tree_at level e) ≡ expr_outline e
 expr_read level e w = lowered level (height e) (own e) (expr_outline e) w (λ u. own_read e u)
 
@@ -363,6 +366,8 @@ pub expression_read : (x : Box Expr) → IsWhole (expression_tree x) → read_ex
 unfolding read_expression
 expression_read x w = expr_read 13 x.value w
 
+-- ---- parenthesized
+
 pub read_parenthesized : Tree → Outline
 read_parenthesized (pair (leaf opening) (pair x (leaf closing))) = token_at opening ◂ read_expr 13 x ◂ token_at closing
 read_parenthesized t = no_more
@@ -371,6 +376,8 @@ pub parenthesized_read : (x : Parenthesized) → IsWhole (parenthesized_tree x) 
 unfolding read_parenthesized
 parenthesized_read x w = refl ◃ expr_read 13 x.value.value w.1.0 ◃ refl
 
+-- ---- cast
+
 pub read_cast : Tree → Outline
 read_cast (pair (leaf apostrophe) x) = token_at apostrophe ◂ read_parenthesized x
 read_cast t = no_more
@@ -378,6 +385,8 @@ read_cast t = no_more
 pub cast_read : (x : Cast) → IsWhole (cast_tree x) → read_cast (cast_tree x) ≡ cast_outline x
 unfolding read_cast
 cast_read x w = refl ◃ parenthesized_read x.value w.1
+
+-- ---- next expression
 
 pub read_next_expression : Tree → Outline
 read_next_expression (pair (leaf comma) x) = token_at comma ◂ read_expr 13 x

@@ -1,4 +1,4 @@
--- Reading back: what items of modules and interfaces say (IEEE 1800-2017, A.1.4, A.4 and A.6.1).
+-- Items of modules and interfaces, read back from their trees.
 use Rattle.sve_grammar.specs.Reading.{Tree, leaf, none, pair, left, right, turn}
 use Rattle.std.proofs.Common.{◌≡◌, refl}
 use Rattle.sve_tree.specs.Words.{label_tree, next_name_tree, edge_tree}
@@ -41,6 +41,8 @@ use Rattle.sve_tree.specs.declared.item.GenerateBlock.TheVariants as is_generate
 use Rattle.sve_tree.specs.declared.item.GenvarStep.TheVariants as is_genvar_step
 use Rattle.sve_tree.specs.declared.item.CaseGenerateItem.TheVariants as is_case_generate_item
 
+-- ---- genvar declaration
+
 pub read_genvar_declaration : Tree → Outline
 read_genvar_declaration (pair (leaf keyword) (pair (leaf first) (pair others (leaf semicolon)))) = token_at keyword ◂ token_at first ◂ read_list read_next_name others ◂ token_at semicolon
 read_genvar_declaration t = no_more
@@ -48,6 +50,8 @@ read_genvar_declaration t = no_more
 pub genvar_declaration_read : (x : GenvarDeclaration) → IsWhole (genvar_declaration_tree x) → read_genvar_declaration (genvar_declaration_tree x) ≡ genvar_declaration_outline x
 unfolding read_genvar_declaration
 genvar_declaration_read x w = refl ◃ refl ◃ list_read next_name_tree next_name_outline read_next_name next_name_read x.others.items w.1.1.0 ◃ refl
+
+-- ---- net assignment
 
 pub read_net_assignment : Tree → Outline
 read_net_assignment (pair side (pair (leaf equals) x)) = read_left_side side ◂ token_at equals ◂ read_expr 13 x
@@ -57,6 +61,8 @@ pub net_assignment_read : (x : NetAssignment) → IsWhole (net_assignment_tree x
 unfolding read_net_assignment
 net_assignment_read x w = left_side_read x.left w.0 ◃ refl ◃ expr_read 13 x.value.value w.1.1
 
+-- ---- next net assignment
+
 pub read_next_net_assignment : Tree → Outline
 read_next_net_assignment (pair (leaf comma) assignment) = token_at comma ◂ read_net_assignment assignment
 read_next_net_assignment t = no_more
@@ -64,6 +70,8 @@ read_next_net_assignment t = no_more
 pub next_net_assignment_read : (x : NextNetAssignment) → IsWhole (next_net_assignment_tree x) → read_next_net_assignment (next_net_assignment_tree x) ≡ next_net_assignment_outline x
 unfolding read_next_net_assignment
 next_net_assignment_read x w = refl ◃ net_assignment_read x.assignment w.1
+
+-- ---- continuous assign
 
 pub read_continuous_assign : Tree → Outline
 read_continuous_assign (pair (leaf keyword) (pair first (pair others (leaf semicolon)))) = token_at keyword ◂ read_net_assignment first ◂ read_list read_next_net_assignment others ◂ token_at semicolon
@@ -73,6 +81,8 @@ pub continuous_assign_read : (x : ContinuousAssign) → IsWhole (continuous_assi
 unfolding read_continuous_assign
 continuous_assign_read x w = refl ◃ net_assignment_read x.first w.1.0 ◃ list_read next_net_assignment_tree next_net_assignment_outline read_next_net_assignment next_net_assignment_read x.others.items w.1.1.0 ◃ refl
 
+-- ---- plain procedure
+
 pub read_plain_procedure : Tree → Outline
 read_plain_procedure (pair keyword statement) = read_plain_keyword keyword ◂ read_stmt statement
 read_plain_procedure t = no_more
@@ -80,6 +90,8 @@ read_plain_procedure t = no_more
 pub plain_procedure_read : (x : PlainProcedure) → IsWhole (plain_procedure_tree x) → read_plain_procedure (plain_procedure_tree x) ≡ plain_procedure_outline x
 unfolding read_plain_procedure
 plain_procedure_read x w = plain_keyword_read x.keyword.kind x.keyword.token ◃ stmt_read x.statement.value w.1
+
+-- ---- event
 
 pub read_event : Tree → Outline
 read_event (pair edge x) = read_option read_edge edge ◂ read_expr 13 x
@@ -89,6 +101,8 @@ pub event_read : (x : Event) → IsWhole (event_tree x) → read_event (event_tr
 unfolding read_event
 event_read x w = option_read (word_tree edge_tree) (word_outline edge_place) read_edge (λ x _. edge_read x.kind x.token) x.edge w.0 ◃ expr_read 13 x.value.value w.1
 
+-- ---- next event
+
 pub read_next_event : Tree → Outline
 read_next_event (pair separator event) = read_event_separator separator ◂ read_event event
 read_next_event t = no_more
@@ -96,6 +110,8 @@ read_next_event t = no_more
 pub next_event_read : (x : NextEvent) → IsWhole (next_event_tree x) → read_next_event (next_event_tree x) ≡ next_event_outline x
 unfolding read_next_event
 next_event_read x w = event_separator_read x.separator.kind x.separator.token ◃ event_read x.event w.1
+
+-- ---- event control
 
 pub read_event_control : Tree → Outline
 read_event_control (left (leaf star)) = variant 0 ◂ token_at star
@@ -111,6 +127,8 @@ event_control_read (is_event_control.AnyParenthesized opening star closing) w = 
 event_control_read (is_event_control.Events opening first others closing) w = refl ◃ refl ◃ event_read first w.1.0.0 ◃ list_read next_event_tree next_event_outline read_next_event next_event_read others.items w.1.0.1 ◃ refl
 event_control_read (is_event_control.Name name selects) w = refl ◃ refl ◃ list_read select_tree select_outline read_select select_read selects.items w.1
 
+-- ---- clocked procedure
+
 pub read_clocked_procedure : Tree → Outline
 read_clocked_procedure (pair keyword (pair (leaf at) (pair control statement))) = read_clocked_keyword keyword ◂ token_at at ◂ read_event_control control ◂ read_stmt statement
 read_clocked_procedure t = no_more
@@ -118,6 +136,8 @@ read_clocked_procedure t = no_more
 pub clocked_procedure_read : (x : ClockedProcedure) → IsWhole (clocked_procedure_tree x) → read_clocked_procedure (clocked_procedure_tree x) ≡ clocked_procedure_outline x
 unfolding read_clocked_procedure
 clocked_procedure_read x w = clocked_keyword_read x.keyword.kind x.keyword.token ◃ refl ◃ event_control_read x.control w.1.1.0 ◃ stmt_read x.statement.value w.1.1.1
+
+-- ---- genvar step
 
 pub read_genvar_step : Tree → Outline
 read_genvar_step (left (pair operator (leaf name))) = variant 0 ◂ read_step_operator operator ◂ token_at name
@@ -129,6 +149,8 @@ unfolding read_genvar_step
 genvar_step_read (is_genvar_step.Before operator name) w = refl ◃ step_operator_read operator.kind operator.token ◃ refl
 genvar_step_read (is_genvar_step.Change name change) w = refl ◃ refl ◃ change_read change w.1
 
+-- ---- next modport
+
 pub read_next_modport : Tree → Outline
 read_next_modport (pair (leaf comma) modport) = token_at comma ◂ read_modport modport
 read_next_modport t = no_more
@@ -136,6 +158,8 @@ read_next_modport t = no_more
 pub next_modport_read : (x : NextModport) → IsWhole (next_modport_tree x) → read_next_modport (next_modport_tree x) ≡ next_modport_outline x
 unfolding read_next_modport
 next_modport_read x w = refl ◃ modport_read x.modport w.1
+
+-- ---- modport declaration
 
 pub read_modport_declaration : Tree → Outline
 read_modport_declaration (pair (leaf keyword) (pair first (pair others (leaf semicolon)))) = token_at keyword ◂ read_modport first ◂ read_list read_next_modport others ◂ token_at semicolon
@@ -145,6 +169,8 @@ pub modport_declaration_read : (x : ModportDeclaration) → IsWhole (modport_dec
 unfolding read_modport_declaration
 modport_declaration_read x w = refl ◃ modport_read x.first w.1.0 ◃ list_read next_modport_tree next_modport_outline read_next_modport next_modport_read x.others.items w.1.1.0 ◃ refl
 
+-- ---- instance
+
 pub read_instance : Tree → Outline
 read_instance (pair (leaf name) connections) = token_at name ◂ read_argument_list connections
 read_instance t = no_more
@@ -153,6 +179,8 @@ pub instance_read : (x : Instance) → IsWhole (instance_tree x) → read_instan
 unfolding read_instance
 instance_read x w = refl ◃ argument_list_read x.connections w.1
 
+-- ---- next instance
+
 pub read_next_instance : Tree → Outline
 read_next_instance (pair (leaf comma) instance) = token_at comma ◂ read_instance instance
 read_next_instance t = no_more
@@ -160,6 +188,8 @@ read_next_instance t = no_more
 pub next_instance_read : (x : NextInstance) → IsWhole (next_instance_tree x) → read_next_instance (next_instance_tree x) ≡ next_instance_outline x
 unfolding read_next_instance
 next_instance_read x w = refl ◃ instance_read x.instance w.1
+
+-- ---- items and generate blocks
 
 mutual
   pub read_item : Tree → Outline

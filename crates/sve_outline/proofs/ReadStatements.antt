@@ -1,4 +1,4 @@
--- Reading back: what statements and functions say (IEEE 1800-2017, A.6, A.2.6 and A.2.8).
+-- Statements and functions, read back from their trees.
 use Rattle.sve_grammar.specs.Reading.{Tree, leaf, none, pair, left, right, turn}
 use Rattle.std.proofs.Common.{◌≡◌, refl}
 use Rattle.sve_tree.specs.Words.{lifetime_tree, label_tree, next_name_tree, uniqueness_tree}
@@ -57,6 +57,8 @@ use Rattle.sve_tree.specs.declared.statement.ForStep.TheVariants as is_for_step
 use Rattle.sve_tree.specs.declared.statement.FunctionResult.TheVariants as is_function_result
 use Rattle.sve_tree.specs.declared.statement.FormalDirection.TheVariants as is_formal_direction
 
+-- ---- left sides
+
 mutual
   pub read_left_side : Tree → Outline
   read_left_side (left (pair (leaf name) selects)) = variant 0 ◂ token_at name ◂ read_list read_select selects
@@ -85,6 +87,8 @@ mutual
   next_left_side_row_read end_of-NextLeftSide w = refl
   next_left_side_row_read (more_of-NextLeftSide comma side rest) w = (refl ◃ left_side_read side w.0.1) ◃ next_left_side_row_read rest w.1
 
+-- ---- change
+
 pub read_change : Tree → Outline
 read_change (left (pair operator value)) = variant 0 ◂ read_assignment_operator operator ◂ read_expr 13 value
 read_change (right operator) = variant 1 ◂ read_step_operator operator
@@ -94,6 +98,8 @@ pub change_read : (x : Change) → IsWhole (change_tree x) → read_change (chan
 unfolding read_change
 change_read (is_change.Assign operator value) w = refl ◃ assignment_operator_read operator.kind operator.token ◃ expr_read 13 value.value w.1
 change_read (is_change.Step operator) w = refl ◃ step_operator_read operator.kind operator.token
+
+-- ---- statement tail
 
 pub read_statement_tail : Tree → Outline
 read_statement_tail (left (pair operator value)) = variant 0 ◂ read_assignment_operator operator ◂ read_expr 13 value
@@ -107,6 +113,8 @@ statement_tail_read (is_statement_tail.Assign operator value) w = refl ◃ assig
 statement_tail_read (is_statement_tail.Step operator) w = refl ◃ step_operator_read operator.kind operator.token
 statement_tail_read (is_statement_tail.Call arguments) w = refl ◃ argument_list_read arguments w
 
+-- ---- local declaration
+
 pub read_local_declaration : Tree → Outline
 read_local_declaration (left (pair data_type (pair declarator end))) = variant 0 ◂ read_data_type data_type ◂ read_declarator declarator ◂ read_declaration_end end
 read_local_declaration (right (pair named (pair declarator end))) = variant 1 ◂ read_named_type named ◂ read_declarator declarator ◂ read_declaration_end end
@@ -117,6 +125,8 @@ unfolding read_local_declaration
 local_declaration_read (is_local_declaration.Written data_type declarator end) w = refl ◃ data_type_read data_type w.0 ◃ declarator_read declarator w.1.0 ◃ declaration_end_read end w.1.1
 local_declaration_read (is_local_declaration.Named named declarator end) w = refl ◃ named_type_read named w.0 ◃ declarator_read declarator w.1.0 ◃ declaration_end_read end w.1.1
 
+-- ---- next for variable
+
 pub read_next_for_variable : Tree → Outline
 read_next_for_variable (pair (leaf comma) (pair data_type (pair declarator x))) = token_at comma ◂ read_option read_data_type data_type ◂ read_declarator declarator ◂ read_initializer x
 read_next_for_variable t = no_more
@@ -124,6 +134,8 @@ read_next_for_variable t = no_more
 pub next_for_variable_read : (x : NextForVariable) → IsWhole (next_for_variable_tree x) → read_next_for_variable (next_for_variable_tree x) ≡ next_for_variable_outline x
 unfolding read_next_for_variable
 next_for_variable_read x w = refl ◃ option_read data_type_tree data_type_outline read_data_type data_type_read x.data_type w.1.0 ◃ declarator_read x.declarator w.1.1.0 ◃ initializer_read x.value w.1.1.1
+
+-- ---- for initialization
 
 pub read_for_initialization : Tree → Outline
 read_for_initialization (left (pair data_type (pair declarator (pair value others)))) = variant 0 ◂ read_data_type data_type ◂ read_declarator declarator ◂ read_initializer value ◂ read_list read_next_for_variable others
@@ -137,6 +149,8 @@ for_initialization_read (is_for_initialization.Declared data_type declarator val
 for_initialization_read (is_for_initialization.Assigned name selects operator value) w = refl ◃ scoped_name_read name w.0 ◃ list_read select_tree select_outline read_select select_read selects.items w.1.0 ◃ assignment_operator_read operator.kind operator.token ◃ expr_read 13 value.value w.1.1.1
 for_initialization_read (is_for_initialization.NamedType name selects declarator value) w = refl ◃ scoped_name_read name w.0 ◃ list_read select_tree select_outline read_select select_read selects.items w.1.0 ◃ declarator_read declarator w.1.1.0 ◃ initializer_read value w.1.1.1
 
+-- ---- for step
+
 pub read_for_step : Tree → Outline
 read_for_step (left (pair operator (pair (leaf name) selects))) = variant 0 ◂ read_step_operator operator ◂ token_at name ◂ read_list read_select selects
 read_for_step (right (pair (leaf name) (pair selects change))) = variant 1 ◂ token_at name ◂ read_list read_select selects ◂ read_change change
@@ -147,6 +161,8 @@ unfolding read_for_step
 for_step_read (is_for_step.Before operator name selects) w = refl ◃ step_operator_read operator.kind operator.token ◃ refl ◃ list_read select_tree select_outline read_select select_read selects.items w.1.1
 for_step_read (is_for_step.Change name selects change) w = refl ◃ refl ◃ list_read select_tree select_outline read_select select_read selects.items w.1.0 ◃ change_read change w.1.1
 
+-- ---- next for step
+
 pub read_next_for_step : Tree → Outline
 read_next_for_step (pair (leaf comma) step) = token_at comma ◂ read_for_step step
 read_next_for_step t = no_more
@@ -154,6 +170,8 @@ read_next_for_step t = no_more
 pub next_for_step_read : (x : NextForStep) → IsWhole (next_for_step_tree x) → read_next_for_step (next_for_step_tree x) ≡ next_for_step_outline x
 unfolding read_next_for_step
 next_for_step_read x w = refl ◃ for_step_read x.step w.1
+
+-- ---- for steps
 
 pub read_for_steps : Tree → Outline
 read_for_steps (pair first others) = read_for_step first ◂ read_list read_next_for_step others
@@ -163,6 +181,8 @@ pub for_steps_read : (x : ForSteps) → IsWhole (for_steps_tree x) → read_for_
 unfolding read_for_steps
 for_steps_read x w = for_step_read x.first w.0 ◃ list_read next_for_step_tree next_for_step_outline read_next_for_step next_for_step_read x.others.items w.1
 
+-- ---- return statement
+
 pub read_return_statement : Tree → Outline
 read_return_statement (pair (leaf keyword) (pair x (leaf semicolon))) = token_at keyword ◂ read_option read_expression x ◂ token_at semicolon
 read_return_statement t = no_more
@@ -170,6 +190,8 @@ read_return_statement t = no_more
 pub return_statement_read : (x : ReturnStatement) → IsWhole (return_statement_tree x) → read_return_statement (return_statement_tree x) ≡ return_statement_outline x
 unfolding read_return_statement
 return_statement_read x w = refl ◃ option_read expression_tree expression_outline read_expression expression_read x.value w.1.0 ◃ refl
+
+-- ---- system task
 
 pub read_system_task : Tree → Outline
 read_system_task (pair (leaf name) (pair arguments (leaf semicolon))) = token_at name ◂ read_option read_argument_list arguments ◂ token_at semicolon
@@ -179,6 +201,8 @@ pub system_task_read : (x : SystemTask) → IsWhole (system_task_tree x) → rea
 unfolding read_system_task
 system_task_read x w = refl ◃ option_read argument_list_tree argument_list_outline read_argument_list argument_list_read x.arguments w.1.0 ◃ refl
 
+-- ---- void call
+
 pub read_void_call : Tree → Outline
 read_void_call (pair (leaf keyword) (pair cast (leaf semicolon))) = token_at keyword ◂ read_cast cast ◂ token_at semicolon
 read_void_call t = no_more
@@ -186,6 +210,8 @@ read_void_call t = no_more
 pub void_call_read : (x : VoidCall) → IsWhole (void_call_tree x) → read_void_call (void_call_tree x) ≡ void_call_outline x
 unfolding read_void_call
 void_call_read x w = refl ◃ cast_read x.cast w.1.0 ◃ refl
+
+-- ---- step statement
 
 pub read_step_statement : Tree → Outline
 read_step_statement (pair operator (pair (leaf name) (pair selects (leaf semicolon)))) = read_step_operator operator ◂ token_at name ◂ read_list read_select selects ◂ token_at semicolon
@@ -195,6 +221,8 @@ pub step_statement_read : (x : StepStatement) → IsWhole (step_statement_tree x
 unfolding read_step_statement
 step_statement_read x w = step_operator_read x.operator.kind x.operator.token ◃ refl ◃ list_read select_tree select_outline read_select select_read x.selects.items w.1.1.0 ◃ refl
 
+-- ---- concatenation assignment
+
 pub read_concatenation_assignment : Tree → Outline
 read_concatenation_assignment (pair side (pair operator (pair x (leaf semicolon)))) = read_left_concatenation side ◂ read_assignment_operator operator ◂ read_expr 13 x ◂ token_at semicolon
 read_concatenation_assignment t = no_more
@@ -203,6 +231,8 @@ pub concatenation_assignment_read : (x : ConcatenationAssignment) → IsWhole (c
 unfolding read_concatenation_assignment
 concatenation_assignment_read x w = left_concatenation_read x.left w.0 ◃ assignment_operator_read x.operator.kind x.operator.token ◃ expr_read 13 x.value.value w.1.1.0 ◃ refl
 
+-- ---- name statement
+
 pub read_name_statement : Tree → Outline
 read_name_statement (pair name (pair selects (pair tail (leaf semicolon)))) = read_scoped_name name ◂ read_list read_select selects ◂ read_statement_tail tail ◂ token_at semicolon
 read_name_statement t = no_more
@@ -210,6 +240,8 @@ read_name_statement t = no_more
 pub name_statement_read : (x : NameStatement) → IsWhole (name_statement_tree x) → read_name_statement (name_statement_tree x) ≡ name_statement_outline x
 unfolding read_name_statement
 name_statement_read x w = scoped_name_read x.name w.0 ◃ list_read select_tree select_outline read_select select_read x.selects.items w.1.0 ◃ statement_tail_read x.tail w.1.1.0 ◃ refl
+
+-- ---- statements and their parts
 
 mutual
   pub read_stmt : Tree → Outline
@@ -314,6 +346,8 @@ mutual
   case_item_row_read end_of-CaseItem w = refl
   case_item_row_read (more_of-CaseItem case_item rest) w = case_item_read case_item w.0 ◃ case_item_row_read rest w.1
 
+-- ---- function result
+
 pub read_function_result : Tree → Outline
 read_function_result (left (pair (leaf keyword) (leaf name))) = variant 0 ◂ token_at keyword ◂ token_at name
 read_function_result (right data_type) = variant 1 ◂ read_type_ref data_type
@@ -323,6 +357,8 @@ pub function_result_read : (x : FunctionResult) → IsWhole (function_result_tre
 unfolding read_function_result
 function_result_read (is_function_result.Void keyword name) w = refl ◃ refl ◃ refl
 function_result_read (is_function_result.Typed data_type) w = refl ◃ type_ref_read data_type w
+
+-- ---- formal direction
 
 pub read_formal_direction : Tree → Outline
 read_formal_direction (left direction) = variant 0 ◂ read_dir direction
@@ -334,6 +370,8 @@ unfolding read_formal_direction
 formal_direction_read (is_formal_direction.Value direction) w = refl ◃ dir_read direction.kind direction.token
 formal_direction_read (is_formal_direction.Reference keyword) w = refl ◃ refl
 
+-- ---- formal
+
 pub read_formal : Tree → Outline
 read_formal (pair direction (pair variable data_type)) = read_option read_formal_direction direction ◂ read_option read_token variable ◂ read_type_ref data_type
 read_formal t = no_more
@@ -341,6 +379,8 @@ read_formal t = no_more
 pub formal_read : (x : Formal) → IsWhole (formal_tree x) → read_formal (formal_tree x) ≡ formal_outline x
 unfolding read_formal
 formal_read x w = option_read formal_direction_tree formal_direction_outline read_formal_direction formal_direction_read x.direction w.0 ◃ option_read leaf token_at read_token token_read x.variable w.1.0 ◃ type_ref_read x.data_type w.1.1
+
+-- ---- next formal
 
 pub read_next_formal : Tree → Outline
 read_next_formal (pair (leaf comma) formal) = token_at comma ◂ read_formal formal
@@ -350,6 +390,8 @@ pub next_formal_read : (x : NextFormal) → IsWhole (next_formal_tree x) → rea
 unfolding read_next_formal
 next_formal_read x w = refl ◃ formal_read x.formal w.1
 
+-- ---- formal list
+
 pub read_formal_list : Tree → Outline
 read_formal_list (pair first others) = read_formal first ◂ read_list read_next_formal others
 read_formal_list t = no_more
@@ -358,6 +400,8 @@ pub formal_list_read : (x : FormalList) → IsWhole (formal_list_tree x) → rea
 unfolding read_formal_list
 formal_list_read x w = formal_read x.first w.0 ◃ list_read next_formal_tree next_formal_outline read_next_formal next_formal_read x.others.items w.1
 
+-- ---- formals
+
 pub read_formals : Tree → Outline
 read_formals (pair (leaf opening) (pair list (leaf closing))) = token_at opening ◂ read_option read_formal_list list ◂ token_at closing
 read_formals t = no_more
@@ -365,6 +409,8 @@ read_formals t = no_more
 pub formals_read : (x : Formals) → IsWhole (formals_tree x) → read_formals (formals_tree x) ≡ formals_outline x
 unfolding read_formals
 formals_read x w = refl ◃ option_read formal_list_tree formal_list_outline read_formal_list formal_list_read x.list w.1.0 ◃ refl
+
+-- ---- func
 
 pub read_func : Tree → Outline
 read_func (pair (leaf keyword) (pair lifetime (pair result_type (pair formals (pair (leaf semicolon) (pair x (pair (leaf end) label))))))) = token_at keyword ◂ read_option read_lifetime lifetime ◂ read_function_result result_type ◂ read_option read_formals formals ◂ token_at semicolon ◂ read_list read_block_item x ◂ token_at end ◂ read_option read_label label

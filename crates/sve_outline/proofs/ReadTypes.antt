@@ -1,4 +1,4 @@
--- Reading back: what types and names that are declared say (IEEE 1800-2017, A.2.2.1 and A.2.5).
+-- Types and names that are declared, read back from their trees.
 use Rattle.sve_grammar.specs.Reading.{Tree, leaf, none, pair, left, right, turn}
 use Rattle.std.proofs.Common.{ℕ, ◌≡◌, refl, ap}
 use Rattle.sve_tree.specs.Words.{sign_tree, next_name_tree}
@@ -33,6 +33,8 @@ abbrev written_place : Tree → ℕ
 written_place (pair t u) = 2
 written_place t = 0
 
+-- ---- atom type
+
 pub read_atom_type : Tree → Outline
 read_atom_type (pair keyword sign) = read_atom_keyword keyword ◂ read_option read_sign sign
 read_atom_type t = no_more
@@ -40,6 +42,8 @@ read_atom_type t = no_more
 pub atom_type_read : (x : AtomType) → IsWhole (atom_type_tree x) → read_atom_type (atom_type_tree x) ≡ atom_type_outline x
 unfolding read_atom_type
 atom_type_read x w = atom_keyword_read x.keyword.kind x.keyword.token ◃ option_read (word_tree sign_tree) (word_outline sign_place) read_sign (λ x _. sign_read x.kind x.token) x.sign w.1
+
+-- ---- vector type
 
 pub read_vector_type : Tree → Outline
 read_vector_type (pair keyword (pair sign dimensions)) = read_vector_keyword keyword ◂ read_option read_sign sign ◂ read_list read_dimension dimensions
@@ -49,6 +53,8 @@ pub vector_type_read : (x : VectorType) → IsWhole (vector_type_tree x) → rea
 unfolding read_vector_type
 vector_type_read x w = vector_keyword_read x.keyword.kind x.keyword.token ◃ option_read (word_tree sign_tree) (word_outline sign_place) read_sign (λ x _. sign_read x.kind x.token) x.sign w.1.0 ◃ list_read dimension_tree dimension_outline read_dimension dimension_read x.dimensions.items w.1.1
 
+-- ---- named type
+
 pub read_named_type : Tree → Outline
 read_named_type (pair name dimensions) = read_scoped_name name ◂ read_list read_dimension dimensions
 read_named_type t = no_more
@@ -56,6 +62,8 @@ read_named_type t = no_more
 pub named_type_read : (x : NamedType) → IsWhole (named_type_tree x) → read_named_type (named_type_tree x) ≡ named_type_outline x
 unfolding read_named_type
 named_type_read x w = scoped_name_read x.name w.0 ◃ list_read dimension_tree dimension_outline read_dimension dimension_read x.dimensions.items w.1
+
+-- ---- enum base
 
 pub read_enum_base : Tree → Outline
 read_enum_base (left atom) = variant 0 ◂ read_atom_type atom
@@ -69,6 +77,8 @@ enum_base_read (is_enum_base.Atom atom) w = refl ◃ atom_type_read atom w
 enum_base_read (is_enum_base.Vector vector) w = refl ◃ vector_type_read vector w
 enum_base_read (is_enum_base.Named named) w = refl ◃ named_type_read named w
 
+-- ---- initializer
+
 pub read_initializer : Tree → Outline
 read_initializer (pair (leaf equals) x) = token_at equals ◂ read_expr 13 x
 read_initializer t = no_more
@@ -76,6 +86,8 @@ read_initializer t = no_more
 pub initializer_read : (x : Initializer) → IsWhole (initializer_tree x) → read_initializer (initializer_tree x) ≡ initializer_outline x
 unfolding read_initializer
 initializer_read x w = refl ◃ expr_read 13 x.value.value w.1
+
+-- ---- enum name
 
 pub read_enum_name : Tree → Outline
 read_enum_name (pair (leaf name) x) = token_at name ◂ read_option read_initializer x
@@ -85,6 +97,8 @@ pub enum_name_read : (x : EnumName) → IsWhole (enum_name_tree x) → read_enum
 unfolding read_enum_name
 enum_name_read x w = refl ◃ option_read initializer_tree initializer_outline read_initializer initializer_read x.value w.1
 
+-- ---- next enum name
+
 pub read_next_enum_name : Tree → Outline
 read_next_enum_name (pair (leaf comma) name) = token_at comma ◂ read_enum_name name
 read_next_enum_name t = no_more
@@ -92,6 +106,8 @@ read_next_enum_name t = no_more
 pub next_enum_name_read : (x : NextEnumName) → IsWhole (next_enum_name_tree x) → read_next_enum_name (next_enum_name_tree x) ≡ next_enum_name_outline x
 unfolding read_next_enum_name
 next_enum_name_read x w = refl ◃ enum_name_read x.name w.1
+
+-- ---- enumeration
 
 pub read_enumeration : Tree → Outline
 read_enumeration (pair (leaf keyword) (pair base (pair (leaf opening) (pair first (pair others (pair (leaf closing) dimensions)))))) = token_at keyword ◂ read_option read_enum_base base ◂ token_at opening ◂ read_enum_name first ◂ read_list read_next_enum_name others ◂ token_at closing ◂ read_list read_dimension dimensions
@@ -101,6 +117,8 @@ pub enumeration_read : (x : Enumeration) → IsWhole (enumeration_tree x) → re
 unfolding read_enumeration
 enumeration_read x w = refl ◃ option_read enum_base_tree enum_base_outline read_enum_base enum_base_read x.base w.1.0 ◃ refl ◃ enum_name_read x.first w.1.1.1.0 ◃ list_read next_enum_name_tree next_enum_name_outline read_next_enum_name next_enum_name_read x.others.items w.1.1.1.1.0 ◃ refl ◃ list_read dimension_tree dimension_outline read_dimension dimension_read x.dimensions.items w.1.1.1.1.1.1
 
+-- ---- declarator
+
 pub read_declarator : Tree → Outline
 read_declarator (pair (leaf name) dimensions) = token_at name ◂ read_list read_dimension dimensions
 read_declarator t = no_more
@@ -108,6 +126,8 @@ read_declarator t = no_more
 pub declarator_read : (x : Declarator) → IsWhole (declarator_tree x) → read_declarator (declarator_tree x) ≡ declarator_outline x
 unfolding read_declarator
 declarator_read x w = refl ◃ list_read dimension_tree dimension_outline read_dimension dimension_read x.dimensions.items w.1
+
+-- ---- types and references to types
 
 mutual
   pub read_data_type : Tree → Outline

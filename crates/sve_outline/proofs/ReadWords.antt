@@ -1,4 +1,4 @@
--- Reading back: the places of what a token can say, and what names say (IEEE 1800-2017, A.8.6, A.2.2.1, A.1.3, A.9.3).
+-- What tokens can say, and names, read back from their trees.
 use Rattle.sve_grammar.specs.Reading.{Tree, leaf, pair, left, right}
 use Rattle.std.proofs.Common.{ℕ, ◌≡◌, refl, cond, eqb}
 use Rattle.sve_tree.specs.declared.word.Sign.{Sign}
@@ -53,6 +53,8 @@ use Rattle.sve_tree.specs.declared.word.EventSeparator.TheVariants as is_event_s
 use Rattle.sve_tree.specs.declared.word.ModuleKeyword.TheVariants as is_module_keyword
 use Rattle.sve_bytes.specs.declared.direction.Dir.TheVariants as is_dir
 
+-- ---- sign
+
 pub read_sign : Tree → Outline
 read_sign t = numbered 1 0 t
 
@@ -61,6 +63,8 @@ unfolding read_sign numbered
 sign_read is_sign.Signed i = refl
 sign_read is_sign.Unsigned i = refl
 
+-- ---- lifetime
+
 pub read_lifetime : Tree → Outline
 read_lifetime t = numbered 1 0 t
 
@@ -68,6 +72,8 @@ pub lifetime_read : (k : Lifetime) (i : ℕ) → read_lifetime (lifetime_tree k 
 unfolding read_lifetime numbered
 lifetime_read is_lifetime.Automatic i = refl
 lifetime_read is_lifetime.Static i = refl
+
+-- ---- net
 
 pub read_net : Tree → Outline
 read_net t = numbered 10 0 t
@@ -86,6 +92,8 @@ net_read is_net.Tri1 i = refl
 net_read is_net.Supply0 i = refl
 net_read is_net.Supply1 i = refl
 
+-- ---- atom keyword
+
 pub read_atom_keyword : Tree → Outline
 read_atom_keyword t = numbered 5 0 t
 
@@ -98,6 +106,8 @@ atom_keyword_read is_atom_keyword.Longint i = refl
 atom_keyword_read is_atom_keyword.Integer i = refl
 atom_keyword_read is_atom_keyword.Time i = refl
 
+-- ---- vector keyword
+
 pub read_vector_keyword : Tree → Outline
 read_vector_keyword t = numbered 2 0 t
 
@@ -106,6 +116,8 @@ unfolding read_vector_keyword numbered
 vector_keyword_read is_vector_keyword.Bit i = refl
 vector_keyword_read is_vector_keyword.Logic i = refl
 vector_keyword_read is_vector_keyword.Reg i = refl
+
+-- ---- integer keyword
 
 pub read_integer_keyword : Tree → Outline
 read_integer_keyword (left t) = numbered 5 0 t
@@ -119,6 +131,8 @@ integer_keyword_read (is_integer_keyword.Vector is_vector_keyword.Bit) i = refl
 integer_keyword_read (is_integer_keyword.Vector is_vector_keyword.Logic) i = refl
 integer_keyword_read (is_integer_keyword.Vector is_vector_keyword.Reg) i = refl
 
+-- ---- parameter keyword
+
 pub read_parameter_keyword : Tree → Outline
 read_parameter_keyword t = numbered 1 0 t
 
@@ -126,6 +140,8 @@ pub parameter_keyword_read : (k : ParameterKeyword) (i : ℕ) → read_parameter
 unfolding read_parameter_keyword numbered
 parameter_keyword_read is_parameter_keyword.Parameter i = refl
 parameter_keyword_read is_parameter_keyword.Localparam i = refl
+
+-- ---- unary operator
 
 pub read_unary_operator : Tree → Outline
 read_unary_operator t = numbered 10 0 t
@@ -143,6 +159,8 @@ unary_operator_read is_unary_operator.Nor i = refl
 unary_operator_read is_unary_operator.Xor i = refl
 unary_operator_read is_unary_operator.TildeXnor i = refl
 unary_operator_read is_unary_operator.CaretXnor i = refl
+
+-- ---- binary operator
 
 -- an operator of a level: each level has its own alternatives
 pub read_binary_operator : ℕ → Tree → Outline
@@ -188,6 +206,8 @@ binary_operator_read is_binary_operator.Or i = refl
 binary_operator_read is_binary_operator.LogicalAnd i = refl
 binary_operator_read is_binary_operator.LogicalOr i = refl
 
+-- ---- implication operator
+
 pub read_implication_operator : Tree → Outline
 read_implication_operator t = numbered 1 0 t
 
@@ -195,6 +215,8 @@ pub implication_operator_read : (k : ImplicationOperator) (i : ℕ) → read_imp
 unfolding read_implication_operator numbered
 implication_operator_read is_implication_operator.Implies i = refl
 implication_operator_read is_implication_operator.Equivalent i = refl
+
+-- ---- assignment operator
 
 pub read_assignment_operator : Tree → Outline
 read_assignment_operator t = numbered 13 0 t
@@ -216,6 +238,8 @@ assignment_operator_read is_assignment_operator.LogicalShiftRight i = refl
 assignment_operator_read is_assignment_operator.ArithmeticShiftLeft i = refl
 assignment_operator_read is_assignment_operator.ArithmeticShiftRight i = refl
 
+-- ---- step operator
+
 pub read_step_operator : Tree → Outline
 read_step_operator t = numbered 1 0 t
 
@@ -223,6 +247,8 @@ pub step_operator_read : (k : StepOperator) (i : ℕ) → read_step_operator (st
 unfolding read_step_operator numbered
 step_operator_read is_step_operator.Increment i = refl
 step_operator_read is_step_operator.Decrement i = refl
+
+-- ---- scope member
 
 pub read_scope_member : Tree → Outline
 read_scope_member (pair (leaf colons) (leaf name)) = token_at colons ◂ token_at name
@@ -232,6 +258,8 @@ pub scope_member_read : (x : ScopeMember) → IsWhole (scope_member_tree x) → 
 unfolding read_scope_member
 scope_member_read x w = refl ◃ refl
 
+-- ---- scoped name
+
 pub read_scoped_name : Tree → Outline
 read_scoped_name (pair (leaf first) member) = token_at first ◂ read_option read_scope_member member
 read_scoped_name t = no_more
@@ -239,6 +267,8 @@ read_scoped_name t = no_more
 pub scoped_name_read : (x : ScopedName) → IsWhole (scoped_name_tree x) → read_scoped_name (scoped_name_tree x) ≡ scoped_name_outline x
 unfolding read_scoped_name
 scoped_name_read x w = refl ◃ option_read scope_member_tree scope_member_outline read_scope_member scope_member_read x.member w.1
+
+-- ---- label
 
 pub read_label : Tree → Outline
 read_label (pair (leaf colon) (leaf name)) = token_at colon ◂ token_at name
@@ -248,6 +278,8 @@ pub label_read : (x : Label) → IsWhole (label_tree x) → read_label (label_tr
 unfolding read_label
 label_read x w = refl ◃ refl
 
+-- ---- next name
+
 pub read_next_name : Tree → Outline
 read_next_name (pair (leaf comma) (leaf name)) = token_at comma ◂ token_at name
 read_next_name t = no_more
@@ -255,6 +287,8 @@ read_next_name t = no_more
 pub next_name_read : (x : NextName) → IsWhole (next_name_tree x) → read_next_name (next_name_tree x) ≡ next_name_outline x
 unfolding read_next_name
 next_name_read x w = refl ◃ refl
+
+-- ---- uniqueness
 
 pub read_uniqueness : Tree → Outline
 read_uniqueness t = numbered 2 0 t
@@ -265,6 +299,8 @@ uniqueness_read is_uniqueness.Unique i = refl
 uniqueness_read is_uniqueness.Unique0 i = refl
 uniqueness_read is_uniqueness.Priority i = refl
 
+-- ---- case keyword
+
 pub read_case_keyword : Tree → Outline
 read_case_keyword t = numbered 2 0 t
 
@@ -274,6 +310,8 @@ case_keyword_read is_case_keyword.Case i = refl
 case_keyword_read is_case_keyword.Casez i = refl
 case_keyword_read is_case_keyword.Casex i = refl
 
+-- ---- loop keyword
+
 pub read_loop_keyword : Tree → Outline
 read_loop_keyword t = numbered 1 0 t
 
@@ -282,6 +320,8 @@ unfolding read_loop_keyword numbered
 loop_keyword_read is_loop_keyword.While i = refl
 loop_keyword_read is_loop_keyword.Repeat i = refl
 
+-- ---- clocked keyword
+
 pub read_clocked_keyword : Tree → Outline
 read_clocked_keyword t = numbered 1 0 t
 
@@ -289,6 +329,8 @@ pub clocked_keyword_read : (k : ClockedKeyword) (i : ℕ) → read_clocked_keywo
 unfolding read_clocked_keyword numbered
 clocked_keyword_read is_clocked_keyword.Always i = refl
 clocked_keyword_read is_clocked_keyword.AlwaysFf i = refl
+
+-- ---- plain keyword
 
 pub read_plain_keyword : Tree → Outline
 read_plain_keyword t = numbered 2 0 t
@@ -299,6 +341,8 @@ plain_keyword_read is_plain_keyword.AlwaysComb i = refl
 plain_keyword_read is_plain_keyword.AlwaysLatch i = refl
 plain_keyword_read is_plain_keyword.Initial i = refl
 
+-- ---- edge
+
 pub read_edge : Tree → Outline
 read_edge t = numbered 2 0 t
 
@@ -308,6 +352,8 @@ edge_read is_edge.Posedge i = refl
 edge_read is_edge.Negedge i = refl
 edge_read is_edge.Edge i = refl
 
+-- ---- event separator
+
 pub read_event_separator : Tree → Outline
 read_event_separator t = numbered 1 0 t
 
@@ -316,6 +362,8 @@ unfolding read_event_separator numbered
 event_separator_read is_event_separator.Or i = refl
 event_separator_read is_event_separator.Comma i = refl
 
+-- ---- module keyword
+
 pub read_module_keyword : Tree → Outline
 read_module_keyword t = numbered 1 0 t
 
@@ -323,6 +371,8 @@ pub module_keyword_read : (k : ModuleKeyword) (i : ℕ) → read_module_keyword 
 unfolding read_module_keyword numbered
 module_keyword_read is_module_keyword.Module i = refl
 module_keyword_read is_module_keyword.Macromodule i = refl
+
+-- ---- dir
 
 pub read_dir : Tree → Outline
 read_dir t = numbered 2 0 t

@@ -36,8 +36,8 @@ IsRepetition (turn t u) = Unit {0}
 IsRepetition ended = Unit {0}
 IsRepetition t = ⊥
 
--- A tree of a reading: behind each turn of a repetition stands the next turn or the end. No other tree can be read, so what has no place in the
--- grammar is seen as one that is not whole.
+-- Behind each turn of a repetition stands the next turn or the end. The tree of each reading is so; what has no place in the grammar is seen as a
+-- tree that is not.
 abbrev pub IsWhole : Tree → Type 0
 IsWhole (pair t u) = IsWhole t × IsWhole u
 IsWhole (left t) = IsWhole t
@@ -45,9 +45,11 @@ IsWhole (right t) = IsWhole t
 IsWhole (turn t u) = IsWhole t × IsWhole u × IsRepetition u
 IsWhole t = Unit {0}
 
--- nothing is lost where such values are seen as trees
+-- nothing is lost where such values are seen as trees, and nothing that is seen is left out of what they say
 pub record IsKept {X : Type 0} (tree : X → Tree) (outline : X → Outline) : Type 0 where
   -- those that are seen alike say the same
   pub seen : (x y : X) → IsWhole (tree x) → tree x ≡ tree y → outline x ≡ outline y
   -- what a rule reads from a place on leaves no choice of what is said
   pub read : (ts : List Token) (d : ℕ) (r : Rule) (i j k : ℕ) (x y : X) → at_depth ts d r i ≡ Ok (tree x, j) → at_depth ts d r i ≡ Ok (tree y, k) → outline x ≡ outline y
+  -- those that say the same are seen alike
+  pub said : (x y : X) → outline x ≡ outline y → tree x ≡ tree y
