@@ -1,0 +1,4 @@
+pub mod Meaning
+pub mod Step
+pub mod Verdict
+pub mod Runs

@@ -1,0 +1,27 @@
+//! The machine of the grammar, run over the grammar as a table.
+//!
+//! The table has one line for each rule (`expressions`, `types`, `declarations`, `statements`, `items`), under the rule's name and
+//! beside its production (IEEE 1800-2017, Annex A). The machine holds a stack of parts of that table, each with its depth, and
+//! takes one step at a time (`step`, `machine`).
+#![tactic(auto)]
+
+mod declarations;
+mod entry;
+mod expressions;
+mod items;
+mod laws;
+mod machine;
+mod part;
+#[cfg(test)]
+mod rows;
+mod statements;
+mod step;
+mod table;
+#[cfg(test)]
+mod tests;
+mod types;
+mod verdict;
+
+pub use laws::machine_is_linear;
+pub use machine::run;
+pub use verdict::Verdict;
