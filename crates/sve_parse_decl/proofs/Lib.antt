@@ -1,0 +1,4 @@
+pub mod Starts
+pub mod PortTypes
+pub mod Stops
+pub mod Sequences
