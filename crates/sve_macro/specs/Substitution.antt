@@ -1,5 +1,5 @@
 -- What a use of a macro stands for (IEEE 1800-2017, 22.5.1).
-use Rattle.std.specs.Prelude.{ℕ, Bool, true, false, ◌&&◌, is_some, unwrap_or, Option, List, [], ◌∷◌, bytes_eq, slice_index_or, if◌then◌else◌}
+use Rattle.std.specs.Prelude.{ℕ, Bool, true, false, ◌&&◌, nat_lt, is_some, unwrap_or, Option, Some, None, List, [], ◌∷◌, length, bytes_eq, slice_index_or, if◌then◌else◌}
 use Rattle.std.specs.List.{flat_map}
 use Rattle.std.specs.Map.{lookup}
 use Rattle.sve_macro.specs.declared.definition.Macro.{Macro}
@@ -69,3 +69,7 @@ replaced of_word xs = flat_map (λ x. value_of of_word x.kind x.text) xs
 -- the macro's text with its formals replaced and its signs treated
 abbrev pub substituted : Macro → List (List ℕ) → List ℕ
 substituted m actuals = replaced (actual_of m actuals) (lexemes m.text)
+
+-- the text where it has fewer bytes than there is room for (own)
+abbrev pub below : ℕ → List ℕ → Option (List ℕ)
+below room text = if nat_lt (length text) room then Some text else None

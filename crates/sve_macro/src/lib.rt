@@ -14,7 +14,7 @@ pub use actual_list::{ActualFault, actuals};
 pub use definition::Macro;
 pub use literal::{escaped_len, string_len};
 pub use part::{Part, part_at};
-pub use substitution::{SubstFault, substitute, takes};
+pub use substitution::{SubstFault, substitute, substitute_below, takes};
 pub use table::Table;
 
 #[cfg(test)]

@@ -2,7 +2,7 @@ ghost use Rattle.std.specs.Prelude.{◌≡◌, ℕ, ◌↔◌, ◌++◌, List, l
 ghost use Rattle.std.specs.List.{list_all};
 ghost use Rattle.sve_macro.specs.Index.{text_in};
 ghost use Rattle.sve_macro.specs.Lexemes.{lexemes};
-ghost use Rattle.sve_macro.specs.Substitution.{accepts_each, is_empty_list, accepts, given, actual_at, actual_of, value_of, replaced, substituted};
+ghost use Rattle.sve_macro.specs.Substitution.{accepts_each, is_empty_list, accepts, given, actual_at, actual_of, value_of, replaced, substituted, below};
 
 use crate::definition::Macro;
 use crate::lexeme::{Kind, first_lexeme, is_between_after};
@@ -122,20 +122,28 @@ fn push_value(out: &mut Vec<u8>, index: &Index<'_>, kind: Kind, text: &[u8]) -> 
     }
 }
 
-/// What the text stands for, given the texts of the formals.
-fn replaced_text(alloc: Global, index: &Index<'_>, text: &[u8]) -> Result<Vec<u8>, NoMemory>
-    ensures { IfOk result (λ out. out.items ≡ replaced (text_in index.now) (lexemes text.now)) }
+/// What the text stands for, given the texts of the formals, where that has fewer bytes than there is room for.
+fn replaced_text(
+    alloc: Global,
+    index: &Index<'_>,
+    text: &[u8],
+    room: usize,
+) -> Result<Option<List<u8>>, NoMemory>
+    ensures { IfOk result (λ found. found ≡ below room (replaced (text_in index.now) (lexemes text.now))) }
 {
     let mut out = Vec::new(alloc);
     let mut between = false;
     let mut rest = text;
-    while !rest.is_empty() {
+    'lexemes: while !rest.is_empty() && out.len() < room {
         let first = first_lexeme(between, rest);
         push_value(&mut out, index, first.kind, &rest[..first.len])?;
         between = is_between_after(between, first.kind);
         rest = &rest[first.len..];
     }
-    Ok(out)
+    if out.len() < room {
+        return Ok(Some(List::of(out)));
+    }
+    Ok(None)
 }
 
 /// The text of a macro for these actuals: each formal that stands as a whole word outside string
@@ -151,10 +159,29 @@ pub fn substitute(alloc: Global, m: &Macro, actuals: &[List<u8>]) -> Result<List
     ensures text { IfOk result (λ text. text ≡ substituted m.now actuals.now) }
     ensures count { IsErrOf result SubstFault.Count ↔ (accepts m.now actuals.now ≡ false) }
 {
+    match substitute_below(alloc, m, actuals, usize::MAX)? {
+        Some(text) => Ok(text),
+        None => Err(SubstFault::NoMemory),
+    }
+}
+
+/// The same text where it has fewer than `room` bytes, and `None` where it has as many or more. Of a longer text no more
+/// than `room` bytes and one actual are ever written.
+///
+/// # Errors
+/// `Count` as for [`substitute`].
+pub fn substitute_below(
+    alloc: Global,
+    m: &Macro,
+    actuals: &[List<u8>],
+    room: usize,
+) -> Result<Option<List<u8>>, SubstFault>
+    ensures text { IfOk result (λ found. found ≡ below room (substituted m.now actuals.now)) }
+    ensures count { IsErrOf result SubstFault.Count ↔ (accepts m.now actuals.now ≡ false) }
+{
     if !takes(m, actuals) {
         return Err(SubstFault::Count);
     }
     let index = index_of(alloc, m, actuals)?;
-    let text = replaced_text(alloc, &index, m.text.items())?;
-    Ok(List::of(text))
+    Ok(replaced_text(alloc, &index, m.text.items(), room)?)
 }

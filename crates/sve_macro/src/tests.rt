@@ -1,7 +1,7 @@
 //! Uses of macros, worked out by hand from IEEE 1800-2017, 22.5.1, and from the rules of this profile.
 use crate::{
     ActualFault, Macro, SubstFault, Table, actuals, escaped_len, part_at, string_len, substitute,
-    takes,
+    substitute_below, takes,
 };
 use std::alloc::Global;
 use std::test::Fail;
@@ -260,6 +260,16 @@ fn uses_stand_for_their_texts(rt: HostRuntime) -> Result<(), Fail> {
     }
     let found = used(rt.alloc(), b"x)", b"\"x\nx", b"q)")?;
     assert_eq!(rt; found.items(), b"\"x\nq".as_slice());
+    Ok(())
+}
+
+#[test]
+fn a_text_without_room_is_not_given(rt: HostRuntime) -> Result<(), Fail> {
+    let m = made(rt.alloc(), b"x)", b"x+x")?;
+    let given = texts(rt.alloc(), b"abc)")?;
+    let found = substitute_below(rt.alloc(), &m, given.as_slice(), 8)?.ok_or("there is room")?;
+    assert_eq!(rt; found.items(), b"abc+abc".as_slice());
+    assert!(rt; substitute_below(rt.alloc(), &m, given.as_slice(), 7)?.is_none());
     Ok(())
 }
 

@@ -1,22 +1,20 @@
 -- What a step comes to, case by case.
-use Rattle.std.proofs.Common.{◌≡◌, ℕ, ◌+◌, ◌<◌, ◌≤◌, ◌↔◌, Bool, true, false, cond, List, [], ◌∷◌, ◌++◌, length, map, take, Option, Some, None, refl, ap, sym, ◌∙◌, subst, bytes_eq, nat_le, nat_lt, nat_eq, arith, not, ◌&&◌, ◌||◌, reverse, codes, IsTrue}
-use Rattle.std.specs.List.{list_any}
+use Rattle.std.proofs.Common.{◌≡◌, ℕ, ◌+◌, ◌<◌, ◌≤◌, Bool, true, false, List, [], ◌∷◌, length, map, Option, Some, None, refl, ap, sym, ◌∙◌, nat_le, nat_eq, arith, not, ◌||◌, reverse, codes, IsTrue}
 use Rattle.sve_bytes.specs.FileName.{is_file_name_of}
 use Rattle.sve_bytes.specs.declared.span.Span.{Span}
-use Rattle.sve_diag.specs.declared.code.Code.TheVariants.{P02, P04, P05, P06, P07, P08, P09, P10}
+use Rattle.sve_diag.specs.declared.code.Code.TheVariants.{P04, P05, P06, P07, P08, P09, P10}
 use Rattle.sve_unread.specs.Bytes.{Byte, ahead}
 use Rattle.sve_unread.specs.Head.{head_origin, head_line, head_macros, head_level}
 use Rattle.sve_macro.specs.declared.definition.Macro.{Macro}
-use Rattle.sve_macro.specs.Macros.{macro_of}
 use Rattle.sve_macro.specs.Parts.{actuals_of}
 use Rattle.sve_macro.specs.Substitution.{accepts, substituted}
 use Rattle.sve_directive.specs.declared.directive.Directive.{Directive}
 use Rattle.sve_directive.specs.declared.directive.Directive.TheVariants.{Define, Undef, UndefineAll, Ifdef, Ifndef, Elsif, Else, Endif, Include, DefaultNettype, ResetAll, File, Line, Ignored, Keywords, Malformed, Use, LongUse}
 use Rattle.sve_directive.specs.Pieces.{plain_length}
 use Rattle.sve_directive.specs.Directives.{Head, directive_at, is_conditional_at, cut}
-use Rattle.sve_prep.specs.Told.{Told, noted}
+use Rattle.sve_prep.specs.Told.{Told}
 use Rattle.sve_prep.specs.State.{State, refuse, replace, copy, forward, is_reading, use_origin, is_left, close}
-use Rattle.sve_prep.specs.Uses.{Next, Goes, Ends, Needs, passes, give_up, is_inside, is_too_deep, read_result, use_text, part_in, use_with, use_listed, list_start, use_opened, use_found, use_macro}
+use Rattle.sve_prep.specs.Uses.{Goes, Ends, passes, give_up, is_inside, is_too_deep, read_result, part_in, use_with, use_listed, list_start, use_opened, use_found}
 use Rattle.sve_prep.specs.declared.condition.Condition.{Condition}
 use Rattle.sve_prep.specs.Conditionals.{is_own, may_turn, turned, turn, end}
 use Rattle.sve_prep.specs.Includes.{include_text, include_found, ask, is_too_far, include}
@@ -25,11 +23,12 @@ use Rattle.sve_prep.specs.View.{Fits}
 use Rattle.sve_unread.proofs.Laid.{length-ahead}
 
 -- the result of a use
-pub reads_too_much : (name : List ℕ) (n : ℕ) (text : List ℕ) (s : State) {d : Bool} → d ≡ passes text s → d ≡ true → read_result name n text s ≡ Ends (give_up s)
-reads_too_much name n text s p q = let e : passes text s ≡ true = sym p ∙ q in rw e
-
 pub reads : (name : List ℕ) (n : ℕ) (text : List ℕ) (s : State) {d : Bool} → d ≡ passes text s → d ≡ false → read_result name n text s ≡ Goes (replace n text (use_origin (head_origin s.rest)) (head_line s.rest) (name ∷ head_macros s.rest) (head_level s.rest) s)
 reads name n text s p q = let e : passes text s ≡ false = sym p ∙ q in rw e
+
+-- what is given may be read
+pub may_read : (text : List ℕ) (s : State) → s.work + 1 + length text ≤ 4194304 → false ≡ passes text s
+may_read text s h = grind arith
 
 pub same_place : (n : ℕ) (t : List ℕ) (c : Bool) (s : State) {f f' : List ℕ} {k k' line line' : ℕ} {ms ms' : List (List ℕ)} {l l' : ℕ} → f ≡ f' → k ≡ k' → line ≡ line' → ms ≡ ms' → l ≡ l' → replace n t (record { file = f; offset = k; copied = c }) line ms l s ≡ replace n t (record { file = f'; offset = k'; copied = c }) line' ms' l' s
 same_place n t c s {f = f} {f' = f'} {k = k} {k' = k'} {line = line} {line' = line'} {ms = ms} {ms' = ms'} {l = l} a b d e g =

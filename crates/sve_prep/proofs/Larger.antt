@@ -1,18 +1,17 @@
 -- What is done over one map of texts is done alike over every larger one.
 use Rattle.std.proofs.Common.{◌≡◌, ℕ, zero, suc, Bool, true, false, cond, List, Option, Some, None, refl, ap, sym, ◌∙◌, subst, nat_eq, ◌||◌, [], ◌∷◌}
 use Rattle.sve_bytes.specs.FileName.{is_file_name_of}
-use Rattle.sve_diag.specs.declared.code.Code.TheVariants.{P08}
 use Rattle.sve_unread.specs.Bytes.{Byte, ahead}
 use Rattle.sve_directive.specs.declared.directive.Directive.{Directive}
 use Rattle.sve_directive.specs.declared.directive.Directive.TheVariants.{Define, Undef, UndefineAll, Ifdef, Ifndef, Elsif, Else, Endif, Include, DefaultNettype, ResetAll, File, Line, Ignored, Keywords, Malformed, Use, LongUse}
 use Rattle.sve_directive.specs.Pieces.{plain_length}
-use Rattle.sve_directive.specs.Directives.{directive_at, is_conditional_at, cut}
+use Rattle.sve_directive.specs.Directives.{directive_at, is_conditional_at}
 use Rattle.sve_prep.specs.Told.{Told}
-use Rattle.sve_prep.specs.State.{State, is_reading, is_left, refuse}
+use Rattle.sve_prep.specs.State.{State, is_reading, is_left}
 use Rattle.sve_prep.specs.Uses.{Next, Goes, Ends, Needs}
 use Rattle.sve_prep.specs.Includes.{include_found, ask, is_too_far, include}
-use Rattle.sve_prep.specs.Step.{follow, step_head, step_backtick, step_text, step_rest, step}
-use Rattle.sve_prep.specs.Expansion.{Outcome, Done, Wants, carry_on, run, left, go, Start, begin_with, expand, expand_found}
+use Rattle.sve_prep.specs.Step.{follow, step_head, step_rest, step}
+use Rattle.sve_prep.specs.Expansion.{Outcome, Done, carry_on, run, left, go, Start, begin_with, expand_found}
 use Rattle.sve_prep.specs.Larger.{IsLarger, DoneAlike}
 
 -- the same, unless the first needs a name

@@ -1,15 +1,14 @@
 -- Each step takes from what is left, and all is paid for.
-use Rattle.std.proofs.Common.{◌≡◌, ℕ, zero, suc, ◌+◌, ◌-◌, ◌*◌, ◌<◌, ◌≤◌, ◌^◌, Bool, true, false, cond, not, ◌&&◌, ◌||◌, List, [], ◌∷◌, ◌++◌, length, take, drop, map, Option, Some, None, refl, ap, sym, ◌∙◌, subst, bytes_eq, nat_le, nat_lt, nat_eq, arith, length-append, length-drop, if◌then◌else◌, codes}
-use Rattle.std.specs.List.{list_any, list_all}
-use Rattle.std.specs.Fmt.{decimal}
+use Rattle.std.proofs.Common.{◌≡◌, ℕ, zero, suc, ◌+◌, ◌-◌, ◌*◌, ◌<◌, ◌≤◌, Bool, true, false, cond, ◌&&◌, ◌||◌, List, [], ◌∷◌, ◌++◌, length, take, drop, map, Option, Some, None, refl, ap, sym, ◌∙◌, subst, nat_le, nat_lt, nat_eq, arith, length-append, length-drop}
+use Rattle.std.specs.List.{list_all}
 use Rattle.std.proofs.lemmas.List.{length-map, length-take}
 use Rattle.sve_bytes.specs.declared.span.Span.{Span}
 use Rattle.sve_bytes.specs.FileName.{is_file_name_of, may_stand_in_file_name}
 use Rattle.sve_diag.specs.declared.code.Code.{Code}
-use Rattle.sve_origin.specs.Origins.{Origin, Cell, marked}
+use Rattle.sve_origin.specs.Origins.{Origin, marked}
 use Rattle.sve_origin.proofs.Marks.{length-marked}
-use Rattle.sve_unread.specs.Bytes.{Byte, laid, cell, ahead, depth}
-use Rattle.sve_unread.specs.Head.{head_origin, head_line, head_macros, head_level, height}
+use Rattle.sve_unread.specs.Bytes.{Byte, laid, cell, ahead}
+use Rattle.sve_unread.specs.Head.{head_origin, head_line, head_macros, head_level}
 use Rattle.sve_unread.proofs.Laid.{length-laid, length-ahead}
 use Rattle.sve_macro.specs.declared.definition.Macro.{Macro}
 use Rattle.sve_macro.specs.Macros.{macro_of}
@@ -17,20 +16,20 @@ use Rattle.sve_macro.specs.Parts.{actuals_of}
 use Rattle.sve_macro.specs.Substitution.{accepts, substituted}
 use Rattle.sve_directive.specs.Bytes.{begins_with}
 use Rattle.sve_directive.specs.Pieces.{plain_length}
-use Rattle.sve_directive.specs.Directives.{directive_at, is_conditional_at, cut}
+use Rattle.sve_directive.specs.Directives.{directive_at, is_conditional_at}
 use Rattle.sve_directive.specs.declared.directive.Directive.{Directive}
 use Rattle.sve_directive.specs.declared.directive.Directive.TheVariants.{Define, Undef, UndefineAll, Ifdef, Ifndef, Elsif, Else, Endif, Include, DefaultNettype, ResetAll, File, Line, Ignored, Keywords, Malformed, Use, LongUse}
 use Rattle.sve_prep.specs.declared.condition.Condition.{Condition}
 use Rattle.sve_prep.specs.Told.{Told}
-use Rattle.sve_prep.specs.State.{State, limit, is_reading, forward, copy, written, stand_for, replace, report, refuse, set_net_type, use_origin, is_left, close, close_with}
-use Rattle.sve_prep.specs.Conditionals.{is_defined, begun, begin, turned, is_own, may_turn, turn, end}
-use Rattle.sve_prep.specs.Uses.{Next, Goes, Ends, Needs, passes, give_up, is_inside, is_too_deep, read_result, use_text, part_in, use_with, use_listed, past_blanks, list_start, use_opened, use_found, use_macro, file_text, line_text}
-use Rattle.sve_prep.specs.Includes.{include_text, include_found, ask, is_too_far, include}
-use Rattle.sve_prep.specs.Step.{define, undefine, undefine_all, follow, step_head, step_backtick, step_text, step_rest, step}
-use Rattle.sve_prep.specs.Expansion.{Outcome, Done, Wants, carry_on, run, left, go}
+use Rattle.sve_prep.specs.State.{State, limit, is_reading, forward, copy, written, stand_for, replace, refuse, use_origin, is_left, close_with}
+use Rattle.sve_prep.specs.Conditionals.{is_own, may_turn, turn, end}
+use Rattle.sve_prep.specs.Uses.{Next, Goes, Ends, Needs, passes, is_inside, is_too_deep, read_result, use_text, part_in, use_with, use_listed, past_blanks, list_start, use_opened, use_found, file_text, line_text}
+use Rattle.sve_prep.specs.Includes.{include_found, ask, is_too_far, include}
+use Rattle.sve_prep.specs.Step.{follow, step_head, step_backtick, step_rest, step}
+use Rattle.sve_prep.specs.Expansion.{Outcome, carry_on, run, left, go}
 use Rattle.sve_prep.specs.View.{Fits, ArePlaced}
 use Rattle.sve_prep.proofs.Placed.{placed-drop, placed-append, placed-laid, head_placed}
-use Rattle.sve_prep.proofs.Taken.{Pays, Takes, directive_takes, EndsBehind, list_ends, some_ahead}
+use Rattle.sve_prep.proofs.Taken.{Pays, directive_takes, EndsBehind, list_ends, some_ahead}
 use Rattle.std.proofs.lemmas.Fmt.{length-decimal-le}
 
 pub record Follows (s t : State) : Type 0 where

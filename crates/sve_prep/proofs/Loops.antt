@@ -1,16 +1,14 @@
 -- The loop over the steps.
-use Rattle.std.proofs.Common.{◌≡◌, ℕ, suc, ◌+◌, ◌<◌, ◌≤◌, ◌↔◌, ◌⊎◌, Bool, true, false, cond, List, [], ◌∷◌, ◌++◌, length, Option, Some, None, refl, ap, sym, ◌∙◌, subst, arith, inl, inr}
-use Rattle.std.specs.Prelude.{Result, IsErr}
+use Rattle.std.proofs.Common.{◌≡◌, ℕ, suc, ◌<◌, ◌≤◌, ◌⊎◌, Bool, true, false, cond, List, [], length, Option, Some, None, refl, ap, sym, ◌∙◌, subst, arith, inl, inr}
 use Rattle.std.specs.declared.sync.Arc.{Arc}
 use Rattle.std.specs.declared.alloc.Global.{Global}
-use Rattle.sve_unread.specs.Bytes.{laid}
 use Rattle.sve_unread.proofs.Laid.{length-laid}
 use Rattle.sve_prep.specs.Told.{Told, Tells, Holds, Matches, TellSame, text_in, noted, IsShort}
 use Rattle.sve_prep.specs.Answer.{text_or_empty}
 use Rattle.sve_prep.specs.Halts.{IsHalted, IsWanting, StepsTo, HaltsAt}
 use Rattle.sve_prep.specs.Under.{IsUnderWay}
-use Rattle.sve_prep.specs.State.{State, limit}
-use Rattle.sve_prep.specs.Uses.{Next, Goes, Ends, Needs}
+use Rattle.sve_prep.specs.State.{State}
+use Rattle.sve_prep.specs.Uses.{Next, Needs}
 use Rattle.sve_prep.specs.Step.{step}
 use Rattle.sve_prep.specs.Expansion.{Outcome, Done, Wants, carry_on, go, left, Start, fresh, begin_with, expand, expand_found}
 use Rattle.sve_prep.specs.View.{Fits, flow}
@@ -18,7 +16,7 @@ use Rattle.sve_bytes.specs.FileName.{is_file_name_of}
 use Rattle.sve_prep.specs.Includes.{include_found, ask, is_too_far, include}
 use Rattle.sve_prep.proofs.Cases.{include_asks}
 use Rattle.sve_prep.proofs.Placed.{placed-laid}
-use Rattle.sve_prep.proofs.Law.{Follows, IsFollowed, step_follows, go-step}
+use Rattle.sve_prep.proofs.Law.{IsFollowed, step_follows, go-step}
 
 -- what tells the same
 pub same_on : (a b d : Tells) → TellSame a b → TellSame b d → TellSame a d

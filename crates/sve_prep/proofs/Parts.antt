@@ -3,7 +3,7 @@ use Rattle.std.proofs.Common.{◌≡◌, ℕ, List, Option, None, ap}
 use Rattle.sve_diag.specs.declared.code.Code.{Code}
 use Rattle.sve_prep.specs.declared.work.Work.{Work}
 use Rattle.sve_prep.specs.State.{State, report}
-use Rattle.sve_prep.specs.View.{view, Becomes}
+use Rattle.sve_prep.specs.View.{Becomes}
 
 -- after a report the same bytes are left
 pub rest_of : (old new : Work) (code : Code) (arg : Option (List ℕ)) → Becomes old new (report code arg) → new.rest ≡ old.rest

@@ -1,10 +1,10 @@
 -- The files' names and the lines of the bytes that are left are short.
-use Rattle.std.proofs.Common.{◌≡◌, ℕ, zero, suc, ◌+◌, ◌-◌, ◌<◌, ◌≤◌, ◌^◌, Bool, true, false, cond, ◌&&◌, List, [], ◌∷◌, ◌++◌, length, drop, refl, ap, sym, subst, ◌∙◌, arith}
+use Rattle.std.proofs.Common.{ℕ, zero, suc, ◌+◌, ◌<◌, ◌≤◌, ◌^◌, Bool, true, false, cond, ◌&&◌, List, [], ◌∷◌, ◌++◌, length, drop, arith}
 use Rattle.sve_bytes.specs.LineColumn.{is_line_feed}
 use Rattle.sve_origin.specs.Origins.{Origin, moved}
 use Rattle.sve_unread.specs.Bytes.{Byte, laid, line_behind}
 use Rattle.sve_unread.specs.Head.{head_origin, head_line}
-use Rattle.sve_prep.specs.View.{IsPlaced, ArePlaced}
+use Rattle.sve_prep.specs.View.{ArePlaced}
 
 pub placed-drop : (n : ℕ) (bs : List Byte) → ArePlaced bs → ArePlaced (drop n bs)
 placed-drop zero bs p = p

@@ -1,14 +1,14 @@
 -- How many bytes a directive and a list of actuals take.
-use Rattle.std.proofs.Common.{◌≡◌, ℕ, zero, suc, ◌+◌, ◌-◌, ◌<◌, ◌≤◌, Bool, true, false, cond, List, [], ◌∷◌, length, take, drop, Option, Some, None, option_map, refl, ap, sym, subst, ◌∙◌, arith, length-take, length-drop, map}
+use Rattle.std.proofs.Common.{ℕ, ◌+◌, ◌<◌, ◌≤◌, List, [], ◌∷◌, length, drop, Option, Some, None, option_map, arith, length-take, length-drop}
 use Rattle.std.proofs.lemmas.List.{length-map}
 use Rattle.sve_unread.specs.Bytes.{Byte, front, ahead, value_of}
 use Rattle.sve_macro.specs.Parts.{actuals_of, split_list, spans, list_size, all_closed, pieces_of}
 use Rattle.sve_bytes.specs.declared.span.Span.{Span}
 use Rattle.sve_directive.specs.declared.directive.Directive.{Directive}
 use Rattle.sve_directive.specs.declared.directive.Directive.TheVariants.{Define, Undef, UndefineAll, Ifdef, Ifndef, Elsif, Else, Endif, Include, DefaultNettype, ResetAll, File, Line, Ignored, Keywords, Malformed, Use, LongUse}
-use Rattle.sve_directive.specs.Bytes.{identifier, identifier_length}
+use Rattle.sve_directive.specs.Bytes.{identifier_length}
 use Rattle.sve_directive.specs.Words.{word_of}
-use Rattle.sve_directive.specs.Directives.{Head, directive_at, whole_of, parts_of, name_at, after_name, use_of, cut}
+use Rattle.sve_directive.specs.Directives.{Head, directive_at, whole_of, parts_of, name_at, after_name}
 
 -- what is written for a directive is not much longer than the directive
 abbrev pub Pays : Directive → ℕ → ℕ → Type 0

@@ -1,12 +1,12 @@
 -- What `__FILE__ and `__LINE__ stand for.
-use Rattle.std.proofs.Common.{refl, ◌≡◌, ℕ, ◌+◌, ◌<◌, ◌≤◌, ◌^◌, List, [], ◌∷◌, ◌++◌, length, take, Option, Some, nat_eq, Bool, false, min, ap, ◌∙◌, arith, length-append, sym}
+use Rattle.std.proofs.Common.{refl, ◌≡◌, ℕ, ◌+◌, ◌<◌, ◌^◌, List, [], ◌∷◌, ◌++◌, length, take, Some, nat_eq, Bool, false, min, ap, ◌∙◌, arith, length-append, sym}
 use Rattle.std.specs.Fmt.{decimal}
 use Rattle.std.proofs.lemmas.Fmt.{length-decimal-le, decimal_nonempty}
-use Rattle.sve_unread.specs.Head.{head_origin, head_line}
+use Rattle.sve_unread.specs.Head.{head_origin}
 use Rattle.std.proofs.lemmas.List.{take_min}
 use Rattle.sve_directive.specs.Directives.{cut}
 use Rattle.sve_prep.specs.State.{State}
-use Rattle.sve_prep.specs.Uses.{file_text, line_text}
+use Rattle.sve_prep.specs.Uses.{file_text}
 
 pub file_is : (text name : List ℕ) (s : State) → text ≡ (34 ∷ name ++ 34 ∷ []) → name ≡ (head_origin s.rest).file → text ≡ file_text s
 file_is text name s e h = e ∙ ap (λ (n : List ℕ). 34 ∷ n ++ 34 ∷ []) h

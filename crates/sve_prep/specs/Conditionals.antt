@@ -1,5 +1,5 @@
 -- Conditional compilation (IEEE 1800-2017, 22.6).
-use Rattle.std.specs.Prelude.{ℕ, Bool, true, false, not, ◌&&◌, ◌||◌, nat_eq, if◌then◌else◌, List, [], ◌∷◌, Some, is_some, codes}
+use Rattle.std.specs.Prelude.{ℕ, Bool, false, not, ◌&&◌, ◌||◌, nat_eq, if◌then◌else◌, List, [], ◌∷◌, Some, is_some, codes}
 use Rattle.sve_diag.specs.declared.code.Code.TheVariants.{P10}
 use Rattle.sve_unread.specs.Head.{height}
 use Rattle.sve_macro.specs.Macros.{macro_of}

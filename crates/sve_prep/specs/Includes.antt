@@ -1,5 +1,5 @@
 -- Includes (IEEE 1800-2017, 22.4).
-use Rattle.std.specs.Prelude.{ℕ, ◌+◌, Bool, true, nat_le, if◌then◌else◌, List, [], ◌∷◌, Option, Some, None}
+use Rattle.std.specs.Prelude.{ℕ, ◌+◌, Bool, true, nat_le, if◌then◌else◌, List, Option, Some, None}
 use Rattle.sve_bytes.specs.FileName.{is_file_name_of}
 use Rattle.sve_diag.specs.declared.code.Code.TheVariants.{P08, P09}
 use Rattle.sve_unread.specs.Head.{head_macros, head_level}

@@ -1,5 +1,5 @@
 -- The state of an expansion (IEEE 1800-2017, clause 22).
-use Rattle.std.specs.Prelude.{◌≡◌, ℕ, ◌+◌, ◌-◌, Bool, true, false, nat_lt, if◌then◌else◌, List, [], ◌∷◌, ◌++◌, length, map, take, drop, Option, Some, None}
+use Rattle.std.specs.Prelude.{ℕ, ◌+◌, Bool, true, false, nat_lt, if◌then◌else◌, List, [], ◌∷◌, ◌++◌, length, map, take, drop, Option, None}
 use Rattle.sve_bytes.specs.declared.net_type.NetType.{NetType}
 use Rattle.sve_diag.specs.declared.diag.Diag.{Diag}
 use Rattle.sve_diag.specs.declared.code.Code.{Code}

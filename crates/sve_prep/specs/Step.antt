@@ -1,5 +1,5 @@
 -- One step of an expansion: what stands leftmost is copied or replaced (IEEE 1800-2017, clause 22).
-use Rattle.std.specs.Prelude.{ℕ, Bool, true, false, not, ◌||◌, nat_eq, if◌then◌else◌, List, [], ◌∷◌, Some, None, bytes_eq, codes}
+use Rattle.std.specs.Prelude.{ℕ, true, false, not, ◌||◌, nat_eq, if◌then◌else◌, List, [], ◌∷◌, Some, bytes_eq, codes}
 use Rattle.std.specs.BTreeMap.{insert_entry}
 use Rattle.std.specs.Cmp.Lexicographic.{slice_cmp}
 use Rattle.std.specs.Map.{remove_entry}
@@ -11,11 +11,11 @@ use Rattle.sve_macro.specs.declared.definition.Macro.{Macro}
 use Rattle.sve_directive.specs.declared.directive.Directive.{Directive}
 use Rattle.sve_directive.specs.declared.directive.Directive.TheVariants.{Define, Undef, UndefineAll, Ifdef, Ifndef, Elsif, Else, Endif, Include, DefaultNettype, ResetAll, File, Line, Ignored, Keywords, Malformed, Use, LongUse}
 use Rattle.sve_directive.specs.Pieces.{plain_length}
-use Rattle.sve_directive.specs.Directives.{Head, directive_at, is_conditional_at}
+use Rattle.sve_directive.specs.Directives.{directive_at, is_conditional_at}
 use Rattle.sve_prep.specs.Told.{Told}
 use Rattle.sve_prep.specs.State.{State, is_reading, forward, copy, stand_for, refuse, set_net_type, is_left, close}
 use Rattle.sve_prep.specs.Conditionals.{is_defined, begin, turn, end}
-use Rattle.sve_prep.specs.Uses.{Next, Goes, Ends, Needs, use_macro, file_text, line_text}
+use Rattle.sve_prep.specs.Uses.{Next, Goes, Ends, use_macro, file_text, line_text}
 use Rattle.sve_prep.specs.Includes.{include}
 
 -- `define: a later definition takes the place of an earlier one (22.5.1)

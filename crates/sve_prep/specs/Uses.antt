@@ -4,7 +4,6 @@ use Rattle.std.specs.List.{list_any, prefix_len}
 use Rattle.std.specs.Fmt.{decimal}
 use Rattle.sve_bytes.specs.declared.span.Span.{Span}
 use Rattle.sve_diag.specs.declared.code.Code.TheVariants.{P02, P04, P05, P06, P07, P12}
-use Rattle.sve_origin.specs.Origins.{Origin}
 use Rattle.sve_unread.specs.Bytes.{ahead}
 use Rattle.sve_unread.specs.Head.{head_origin, head_line, head_macros, head_level}
 use Rattle.sve_macro.specs.declared.definition.Macro.{Macro}

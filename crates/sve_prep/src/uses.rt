@@ -14,7 +14,7 @@ use std::alloc::{AllocError, Global};
 use std::sync::Arc;
 use sve_bytes::{List, Name, NoMemory, Span};
 use sve_diag::{Code, Place};
-use sve_macro::{ActualFault, Macro, actuals, substitute, takes};
+use sve_macro::{ActualFault, Macro, actuals, substitute_below, takes};
 
 /// An expansion does at most so much work (own).
 const WORK_LIMIT: u32 = 4_194_304;
@@ -106,11 +106,13 @@ pub enum Use {
     Refused(Code, usize),
     /// It gives this text.
     Gives(List<u8>, usize),
+    /// Its text would pass the work limit.
+    PassesLimit,
 }
 
 impl Work {
     ghost use Rattle.sve_prep.specs.State.{use_origin, replace, stand_for};
-    ghost use Rattle.sve_prep.specs.Uses.{passes, is_inside, is_too_deep, read_result, use_with, use_listed, use_opened, use_found, use_macro, file_text, line_text};
+    ghost use Rattle.sve_prep.specs.Uses.{passes, is_inside, is_too_deep, use_with, use_listed, use_opened, use_found, use_macro, file_text, line_text};
     ghost use Rattle.sve_prep.specs.Reading.{use_length, Comes};
     ghost use Rattle.sve_prep.specs.View.{Becomes, Leads, view, Fits};
 
@@ -140,12 +142,20 @@ impl Work {
         Ok(())
     }
 
+    /// A text of fewer bytes can be read too within the work limit.
+    fn room(&self) -> usize
+        requires { self.now.work ≤ 4194304 }
+        ensures { result ≡ 4194304 - self.now.work }
+    {
+        (WORK_LIMIT - self.work) as usize
+    }
+
     /// Whether reading so many bytes too would pass the work limit.
     pub fn passes(&self, text: &[u8]) -> bool
         requires { self.now.work ≤ 4194304 }
         ensures { result ≡ nat_lt 4194304 (self.now.work + 1 + length text.now) }
     {
-        text.len() >= (WORK_LIMIT - self.work) as usize
+        text.len() >= self.room()
     }
 
     /// Whether the next byte comes from a result of the macro.
@@ -189,28 +199,6 @@ impl Work {
         self.replace(count, shared, place, false, line, macros, level)
     }
 
-    /// The result of a use. Whether the expansion goes on.
-    fn read_result(
-        &mut self,
-        alloc: Global,
-        name: Name,
-        count: usize,
-        text: List<u8>,
-    ) -> Result<bool, NoMemory>
-        requires begun { 0 < length self.old.rest }
-        requires within { count ≤ length (ahead self.old.rest) }
-        requires bounded { self.old.work ≤ 4194304 }
-        requires nested { length (head_macros self.old.rest) < 64 }
-        ensures { IfOk result (λ on. Leads on self.old self.new (read_result name count text)) }
-    {
-        if self.passes(text.items()) {
-            self.give_up(alloc)?;
-            return Ok(false);
-        }
-        self.place_result(alloc, name, count, text)?;
-        Ok(true)
-    }
-
     fn use_with(
         &self,
         alloc: Global,
@@ -221,6 +209,7 @@ impl Work {
     ) -> Result<Use, NoMemory>
         requires begun { 0 < length self.now.rest }
         requires within { count ≤ length (ahead self.now.rest) }
+        requires bounded { self.now.work ≤ 4194304 }
         ensures comes { IfOk result (λ u. Comes self.now name.now u (use_with name.now definition.now actuals.now count)) }
         ensures within { IfOk result (λ u. use_length u ≤ length (ahead self.now.rest)) }
     {
@@ -233,8 +222,9 @@ impl Work {
         if self.is_too_deep() {
             return Ok(Use::Refused(Code::P07, count));
         }
-        match substitute(alloc, definition, actuals) {
-            Ok(text) => Ok(Use::Gives(text, count)),
+        match substitute_below(alloc, definition, actuals, self.room()) {
+            Ok(Some(text)) => Ok(Use::Gives(text, count)),
+            Ok(None) => Ok(Use::PassesLimit),
             Err(_) => Err(AllocError),
         }
     }
@@ -248,6 +238,7 @@ impl Work {
     ) -> Result<Use, NoMemory>
         requires begun { 0 < length self.now.rest }
         requires within { from ≤ length (ahead self.now.rest) }
+        requires bounded { self.now.work ≤ 4194304 }
         ensures comes { IfOk result (λ u. Comes self.now name.now u (use_opened name.now definition.now 0 (Some from))) }
         ensures within { IfOk result (λ u. use_length u ≤ length (ahead self.now.rest)) }
     {
@@ -271,6 +262,7 @@ impl Work {
     ) -> Result<Use, NoMemory>
         requires begun { 0 < length self.now.rest }
         requires within { count ≤ length (ahead self.now.rest) }
+        requires bounded { self.now.work ≤ 4194304 }
         ensures comes { IfOk result (λ u. Comes self.now name.now u (use_found name.now count (Some definition.now))) }
         ensures within { IfOk result (λ u. use_length u ≤ length (ahead self.now.rest)) }
     {
@@ -286,6 +278,7 @@ impl Work {
     fn read_use(&self, alloc: Global, name: &Name, count: usize) -> Result<Use, NoMemory>
         requires begun { 0 < length self.now.rest }
         requires within { count ≤ length (ahead self.now.rest) }
+        requires bounded { self.now.work ≤ 4194304 }
         ensures comes { IfOk result (λ u. Comes self.now name.now u (use_macro name.now count)) }
         ensures within { IfOk result (λ u. use_length u ≤ length (ahead self.now.rest)) }
     {
@@ -307,7 +300,14 @@ impl Work {
                 self.refuse(code, Some(name), end)?;
                 Ok(true)
             }
-            Use::Gives(text, end) => self.read_result(alloc, name, end, text),
+            Use::Gives(text, end) => {
+                self.place_result(alloc, name, end, text)?;
+                Ok(true)
+            }
+            Use::PassesLimit => {
+                self.give_up(alloc)?;
+                Ok(false)
+            }
         }
     }
 }

@@ -5,8 +5,8 @@ use Rattle.sve_macro.specs.Lexemes.{first_lexeme, lexemes}
 use Rattle.sve_macro.specs.Substitution.{replaced}
 use Rattle.sve_macro.proofs.substitution.replaced_text.Given as goal
 
-abbrev pub invariant-loop-rest : goal.invariant-loop-rest
-invariant-loop-rest l = l.out.items ++ replaced (text_in l.index) (pieces first_lexeme l.between l.rest) ≡ replaced (text_in l.index) (lexemes l.text)
+abbrev pub invariant-lexemes : goal.invariant-lexemes
+invariant-lexemes l = l.out.items ++ replaced (text_in l.index) (pieces first_lexeme l.between l.rest) ≡ replaced (text_in l.index) (lexemes l.text)
 
-abbrev pub decreases-loop-rest : goal.decreases-loop-rest
-decreases-loop-rest l = length l.rest
+abbrev pub decreases-lexemes : goal.decreases-lexemes
+decreases-lexemes l = length l.rest

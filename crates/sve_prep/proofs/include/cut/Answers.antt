@@ -1,4 +1,4 @@
-use Rattle.std.proofs.Common.{ℕ, List, Some, sym, ap, ◌∙◌, take}
+use Rattle.std.proofs.Common.{ℕ, List, Some, ap, ◌∙◌, take}
 use Rattle.sve_prep.proofs.Written.{cut_some, some_bytes, take_least}
 use Rattle.sve_prep.proofs.include.cut.Goals as goal
 

@@ -1,4 +1,4 @@
-use Rattle.std.proofs.Common.{Some, List, ℕ, sym, ap, ◌∙◌, reverse, ◌∷◌, []}
+use Rattle.std.proofs.Common.{Some, List, sym, ap, ◌∙◌, reverse, ◌∷◌, []}
 use Rattle.std.proofs.lemmas.Result.{on_ok_weaker}
 use Rattle.std.proofs.lemmas.List.{reverse-append}
 use Rattle.sve_diag.specs.declared.code.Code.TheVariants.{P10}

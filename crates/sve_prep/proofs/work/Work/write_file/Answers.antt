@@ -1,4 +1,4 @@
-use Rattle.std.proofs.Common.{ℕ, List, ◌<◌, ◌+◌, ◌^◌, ap, ◌∙◌, ◌∷◌, ◌++◌, [], arith, length, length-append}
+use Rattle.std.proofs.Common.{ℕ, List, ap, ◌∙◌, arith, length}
 use Rattle.std.proofs.lemmas.Result.{on_ok_weaker}
 use Rattle.sve_prep.specs.State.{stand_for}
 use Rattle.sve_prep.specs.View.{view}

@@ -1,4 +1,4 @@
-use Rattle.std.proofs.Common.{List, ℕ, ap, ◌∙◌, arith, length}
+use Rattle.std.proofs.Common.{List, ℕ, ap, ◌∙◌, length}
 use Rattle.std.proofs.lemmas.Result.{on_ok_weaker}
 use Rattle.std.specs.Fmt.{decimal}
 use Rattle.sve_prep.specs.State.{stand_for}
