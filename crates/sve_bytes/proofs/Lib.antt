@@ -7,3 +7,4 @@ mod StageIndices
 mod StageNames
 mod StepTexts
 mod TextSplits
+pub mod TreesAreOrdered

@@ -8,7 +8,7 @@ use Rattle.sve_bytes.specs.PathReading.{IsStep, SpellsName, SpellsStep, SpellsFu
 use Rattle.sve_bytes.specs.PathStages.{BeginsNoStep}
 use Rattle.sve_bytes.specs.PathText.{is_simple_identifier, name_text, step_text, path_text}
 use Rattle.sve_bytes.proofs.StepTexts.{Ends, steps_agree}
-use Rattle.sve_bytes.proofs.StageNames.{after_one, nothing_is_no_step}
+use Rattle.sve_bytes.proofs.StageNames.{after_one}
 
 -- the steps of a path that has one or more
 abbrev pub SpellsSome : List ℕ → List Step → Type 0
@@ -211,16 +211,6 @@ path_only front x ss s dotted step some p h = cut_off.1 ∙ ap (λ (q : List Ste
         let first : t ≡ s = same.1 in
         let none : q ≡ [] = further_none q (subst (λ (y : List ℕ). SpellsFurther y q) same.2 q_some.4) in
         λ i. first i ∷ none i
-
-pub nothing_only : (p : List Step) → Spells [] p → p ≡ []
-nothing_only [] h = refl
-nothing_only (s ∷ ss) h =
-    let texts : h.0 ≡ [] = by h.0 h.1 (sym h.3) in
-    absurd (nothing_is_no_step s (subst (λ (y : List ℕ). SpellsStep y s) texts h.2))
-  where
-    by : (x y : List ℕ) → x ++ y ≡ [] → x ≡ []
-    by [] y e = refl
-    by (c ∷ x) y e = absurd (let f : ⊥ = cc in f)
 
 -- ---- what was printed
 

@@ -12,9 +12,10 @@ use Rattle.std.specs.Fmt.{decimal, signed_decimal}
 use Rattle.std.specs.List.{list_all}
 use Rattle.std.specs.Str.Parse.{digits_value}
 use Rattle.sve_bytes.specs.declared.path.Step.{Step}
+use Rattle.sve_bytes.specs.Bytes.{continues_identifier}
 use Rattle.sve_bytes.specs.PathReading.{IsIndex, SpellsName, SpellsStep}
 use Rattle.sve_bytes.specs.PathStages.{HasNameThen, BeginsNoStep, IsSize, digits_text, signed_value}
-use Rattle.sve_bytes.specs.PathText.{is_part_of_identifier, has_form_of_identifier, escaped, index_text}
+use Rattle.sve_bytes.specs.PathText.{has_form_of_identifier, escaped, index_text}
 use Rattle.sve_bytes.proofs.StepTexts.{names_agree, escaped_then, index_stops, is_in_number, digits_in_number, digits_of_decimal, mag_small, signed_in_number, parts_of_form, form_of_simple}
 use Rattle.sve_bytes.proofs.StageNames.{after_one, escaped_ends, index_begins}
 use Rattle.sve_bytes.proofs.TextSplits.{same_split, goes_past, byte_of_all, all_and_one}
@@ -99,12 +100,6 @@ after_sign (negsuc n) r fits e =
     let whole : 45 ∷ (decimal (suc n) ++ 93 ∷ []) ≡ 45 ∷ r = e in
     let tails : decimal (suc n) ++ 93 ∷ [] ≡ r = cc in
     (n, refl, omega arith, tails)
-
-after_no_sign : (v : ℤ) (b : ℕ) (r : List ℕ) → IsIndex (Some v) → is_ascii_digit b ≡ true → signed_decimal v ++ 93 ∷ [] ≡ b ∷ r → (n : ℕ) × (v ≡ pos n) × (n < 2 ^ 31)
-after_no_sign (pos n) b r fits digit e = (n, refl, mag_small (pos n) fits)
-after_no_sign (negsuc n) b r fits digit e =
-    let same : b ≡ 45 = cc in
-    absurd (false≢true (sym (ap is_ascii_digit same) ∙ digit))
 
 pub no_digit : (text name : List ℕ) (b : ℕ) → HasNameThen text name (91 ∷ 45 ∷ []) → (is_ascii_digit b ≡ true → b ≡ 48) → BeginsNoStep (text ++ b ∷ [])
 no_digit text name b n digit rest s h =
@@ -213,8 +208,8 @@ pub digits_go_on : (text name : List ℕ) (negative : Bool) (size b : ℕ) → I
 digits_go_on text name negative size b fits h digit some =
     then_bytes (text ++ b ∷ []) name (91 ∷ digits_text negative size ++ b ∷ []) (91 ∷ digits_text negative (size * 10 + (b - 48))) (then_more text name (91 ∷ digits_text negative size) b h) (ap (λ (x : List ℕ). 91 ∷ x) (longer_digits negative size b some (size_small negative size fits) digit))
 
-no_form_at : (text : List ℕ) (b : ℕ) (rest : List ℕ) → is_part_of_identifier b ≡ false → IsTrue (has_form_of_identifier (text ++ b ∷ rest)) → ⊥
-no_form_at text b rest part form = both_ways (is_part_of_identifier b) part (byte_of_all is_part_of_identifier text b rest (parts_of_form (text ++ b ∷ rest) form))
+no_form_at : (text : List ℕ) (b : ℕ) (rest : List ℕ) → continues_identifier b ≡ false → IsTrue (has_form_of_identifier (text ++ b ∷ rest)) → ⊥
+no_form_at text b rest part form = both_ways (continues_identifier b) part (byte_of_all continues_identifier text b rest (parts_of_form (text ++ b ∷ rest) form))
 
 pub digits_close : (text name : List ℕ) (negative : Bool) (size : ℕ) → IsSize negative size → HasNameThen text name (91 ∷ digits_text negative size) → SpellsStep (text ++ 93 ∷ []) (record { name = name; index = Some (signed_value negative size) }) × (IsTrue (has_form_of_identifier (text ++ 93 ∷ [])) → ⊥)
 digits_close text name negative size fits h =
@@ -262,15 +257,6 @@ digits_end text name false size b fits n other beyond rest s h =
         no_minus size (b ∷ rest) (decimal (suc m) ++ 93 ∷ []) short (sym (after_one (decimal size) b rest) ∙ sym e)
 
 -- ---- behind a whole step
-
-pub whole_opens : (text name : List ℕ) → SpellsStep text (record { name = name; index = None }) → HasNameThen (text ++ 91 ∷ []) name (91 ∷ [])
-whole_opens text name h = record {
-  not_empty = h.is_step.not_empty;
-  in_limit = h.is_step.in_limit;
-  named = h.named;
-  spells_name = h.spells_name;
-  parts = ap (λ (x : List ℕ). x ++ 91 ∷ []) (h.whole ∙ append-nil h.named);
-}
 
 pub whole_ends : (text name : List ℕ) (index : Option ℤ) (b : ℕ) → SpellsStep text (record { name = name; index = index }) → (IsTrue (has_form_of_identifier text) → ⊥) → (b ≡ 91 → index ≡ None → ⊥) → BeginsNoStep (text ++ b ∷ [])
 whole_ends text name (Some v) b whole form other rest s h =

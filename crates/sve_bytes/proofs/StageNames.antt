@@ -1,55 +1,25 @@
 -- A reader in the name of a step: where it goes on, and where no step does.
-use Rattle.std.proofs.Common.{◌≡◌, ◌∙◌, ◌⊎◌, inl, inr, ℕ, ◌<◌, ◌≤◌, ℤ, true, false, not, Option, Some, None, IsTrue, List, [], ◌∷◌, ◌++◌, length, refl, sym, ap, append_assoc, arith, length-append}
+use Rattle.std.proofs.Common.{◌≡◌, ◌∙◌, inl, inr, ℕ, ◌<◌, ◌≤◌, ℤ, true, false, not, Option, Some, None, IsTrue, List, [], ◌∷◌, ◌++◌, length, refl, sym, ap, append_assoc, arith, length-append}
 use Rattle.std.proofs.lemmas.Bool.{and_parts, and_from, both_ways, false≢true, not-true}
 use Rattle.std.proofs.lemmas.List.{append-nil}
 use Rattle.std.specs.Char.{is_ascii_graphic}
-use Rattle.std.specs.Fmt.{signed_decimal}
 use Rattle.std.specs.List.{list_all}
 use Rattle.sve_bytes.specs.declared.path.Step.{Step}
+use Rattle.sve_bytes.specs.Bytes.{begins_identifier, continues_identifier}
 use Rattle.sve_bytes.specs.Keywords.{is_keyword_text}
 use Rattle.sve_bytes.specs.PathReading.{SpellsName, SpellsStep}
-use Rattle.sve_bytes.specs.PathStages.{HasNameThen, BeginsNoStep}
-use Rattle.sve_bytes.specs.PathText.{is_first_of_identifier, is_part_of_identifier, has_form_of_identifier, is_simple_identifier, escaped, index_text}
+use Rattle.sve_bytes.specs.PathStages.{BeginsNoStep}
+use Rattle.sve_bytes.specs.PathText.{has_form_of_identifier, is_simple_identifier, escaped, index_text}
 use Rattle.sve_bytes.proofs.StepTexts.{parts_of_form, form_of_simple, parts_of_simple, no_form, escaped_then, index_stops}
 use Rattle.sve_bytes.proofs.TextSplits.{same_split, goes_past, byte_of_all, all_and_one}
 
--- ---- what a step says of its first bytes
-
--- a text of a step, cut behind the text of the name
-pub step_parts : (text : List ℕ) (s : Step) (h : SpellsStep text s) → text ≡ h.named ++ index_text s.index
-step_parts text s h = h.whole
-
-first_of_form : (b : ℕ) (bs name q : List ℕ) → has_form_of_identifier name ≡ true → name ++ q ≡ b ∷ bs → is_first_of_identifier b ≡ true
-first_of_form b bs [] q h e = absurd (false≢true h)
-first_of_form b bs (x ∷ xs) q h e =
-    let same : x ≡ b = cc in
-    ap is_first_of_identifier (sym same) ∙ (and_parts (is_first_of_identifier x) (list_all is_part_of_identifier xs) h).0
-
-first_of_name : (b : ℕ) (bs named name q : List ℕ) → SpellsName named name → named ++ q ≡ b ∷ bs → (is_first_of_identifier b ≡ true) ⊎ (b ≡ 92)
-first_of_name b bs named name q (inl a) e = inl (first_of_form b bs name q (form_of_simple name a.0) (ap (λ (x : List ℕ). x ++ q) (sym a.1) ∙ e))
-first_of_name b bs named name q (inr a) e =
-    let texts : b ∷ bs ≡ 92 ∷ name ++ 32 ∷ q = sym e ∙ ap (λ (x : List ℕ). x ++ q) a.1 ∙ escaped_then name q in
-    let same : b ≡ 92 = cc in
-    inr same
-
--- a step begins with the first byte of an identifier or a backslash
-pub begins_no_step : (b : ℕ) → is_first_of_identifier b ≡ false → (b ≡ 92 → ⊥) → BeginsNoStep (b ∷ [])
-begins_no_step b first slash rest s h =
-    elim (first_of_name b rest h.named s.name (index_text s.index) h.spells_name (sym h.whole)) [
-      | inl letter ↦ both_ways (is_first_of_identifier b) first letter
-      | inr same ↦ slash same
-    ]
-
 -- ---- simple identifiers
 
-pub form_of_one : (b : ℕ) → is_first_of_identifier b ≡ true → has_form_of_identifier (b ∷ []) ≡ true
-form_of_one b h = and_from (is_first_of_identifier b) true h refl
-
-pub form_of_more : (name : List ℕ) (b : ℕ) → has_form_of_identifier name ≡ true → is_part_of_identifier b ≡ true → has_form_of_identifier (name ++ b ∷ []) ≡ true
+pub form_of_more : (name : List ℕ) (b : ℕ) → has_form_of_identifier name ≡ true → continues_identifier b ≡ true → has_form_of_identifier (name ++ b ∷ []) ≡ true
 form_of_more [] b h part = absurd (false≢true h)
 form_of_more (x ∷ xs) b h part =
-    let both = and_parts (is_first_of_identifier x) (list_all is_part_of_identifier xs) h in
-    and_from (is_first_of_identifier x) (list_all is_part_of_identifier (xs ++ b ∷ [])) both.0 (all_and_one is_part_of_identifier xs b both.1 part)
+    let both = and_parts (begins_identifier x) (list_all continues_identifier xs) h in
+    and_from (begins_identifier x) (list_all continues_identifier (xs ++ b ∷ [])) both.0 (all_and_one continues_identifier xs b both.1 part)
 
 pub some_bytes : (name : List ℕ) → has_form_of_identifier name ≡ true → 0 < length name
 some_bytes [] h = absurd (false≢true h)
@@ -70,23 +40,23 @@ simple_name front rest s form h = by h.spells_name
     by (inr a) = absurd (no_form front (s.name ++ 32 ∷ index_text s.index) rest form (h.whole ∙ ap (λ (x : List ℕ). x ++ index_text s.index) a.1 ∙ escaped_then s.name (index_text s.index)))
 
 -- a byte that is no part of an identifier ends the name
-pub simple_ends : (front : List ℕ) (b : ℕ) (rest : List ℕ) (s : Step) → has_form_of_identifier front ≡ true → is_part_of_identifier b ≡ false → SpellsStep (front ++ b ∷ rest) s → IsTrue (is_simple_identifier front) × (index_text s.index ≡ b ∷ rest)
+pub simple_ends : (front : List ℕ) (b : ℕ) (rest : List ℕ) (s : Step) → has_form_of_identifier front ≡ true → continues_identifier b ≡ false → SpellsStep (front ++ b ∷ rest) s → IsTrue (is_simple_identifier front) × (index_text s.index ≡ b ∷ rest)
 simple_ends front b rest s form part h =
     let simple = simple_name front (b ∷ rest) s form h in
     let stops = index_stops s.index [] tt in
     let texts : s.name ++ (index_text s.index ++ []) ≡ front ++ b ∷ rest = ap (λ (x : List ℕ). s.name ++ x) (append-nil (index_text s.index)) ∙ simple.1 in
-    let both = same_split is_part_of_identifier s.name front (index_text s.index ++ []) (b ∷ rest) (parts_of_simple s.name simple.0) (parts_of_form front form) stops part texts in
+    let both = same_split continues_identifier s.name front (index_text s.index ++ []) (b ∷ rest) (parts_of_simple s.name simple.0) (parts_of_form front form) stops part texts in
     (ap is_simple_identifier (sym both.0) ∙ simple.0, sym (append-nil (index_text s.index)) ∙ both.1)
 
 pub after_one : (front : List ℕ) (b : ℕ) (rest : List ℕ) → (front ++ b ∷ []) ++ rest ≡ front ++ b ∷ rest
 after_one front b rest = append_assoc front (b ∷ []) rest
 
 -- a part of an identifier that would be one byte too long
-pub simple_too_long : (front : List ℕ) (b : ℕ) → has_form_of_identifier front ≡ true → is_part_of_identifier b ≡ true → length front ≡ 1024 → BeginsNoStep (front ++ b ∷ [])
+pub simple_too_long : (front : List ℕ) (b : ℕ) → has_form_of_identifier front ≡ true → continues_identifier b ≡ true → length front ≡ 1024 → BeginsNoStep (front ++ b ∷ [])
 simple_too_long front b form part long rest s h =
     let simple = simple_name (front ++ b ∷ []) rest s (form_of_more front b form part) h in
     let texts : s.name ++ (index_text s.index ++ []) ≡ (front ++ b ∷ []) ++ rest = ap (λ (x : List ℕ). s.name ++ x) (append-nil (index_text s.index)) ∙ simple.1 in
-    let more = goes_past is_part_of_identifier s.name (front ++ b ∷ []) (index_text s.index ++ []) rest (parts_of_form (front ++ b ∷ []) (form_of_more front b form part)) (index_stops s.index [] tt) texts in
+    let more = goes_past continues_identifier s.name (front ++ b ∷ []) (index_text s.index ++ []) rest (parts_of_form (front ++ b ∷ []) (form_of_more front b form part)) (index_stops s.index [] tt) texts in
     let limit = h.is_step.in_limit in
     omega (arith, ap length more.1, length-append (front ++ b ∷ []) more.0, length-append front (b ∷ []))
 
@@ -94,21 +64,11 @@ pub index_begins : (i : Option ℤ) (b : ℕ) (rest : List ℕ) → index_text i
 index_begins None b rest e = cc
 index_begins (Some v) b rest e = cc
 
-pub keyword_ends : (front : List ℕ) (b : ℕ) → has_form_of_identifier front ≡ true → is_part_of_identifier b ≡ false → (b ≡ 91 → is_keyword_text front ≡ true) → BeginsNoStep (front ++ b ∷ [])
+pub keyword_ends : (front : List ℕ) (b : ℕ) → has_form_of_identifier front ≡ true → continues_identifier b ≡ false → (b ≡ 91 → is_keyword_text front ≡ true) → BeginsNoStep (front ++ b ∷ [])
 keyword_ends front b form part word rest s h =
     let texts : SpellsStep (front ++ b ∷ rest) s = rw (after_one front b rest) at h in
     let ends = simple_ends front b rest s form part texts in
     both_ways (is_keyword_text front) (plain_of_simple front ends.0) (word (index_begins s.index b rest ends.1))
-
-pub keyword_is_no_step : (front : List ℕ) (s : Step) → has_form_of_identifier front ≡ true → is_keyword_text front ≡ true → SpellsStep front s → ⊥
-keyword_is_no_step front s form word h =
-    let whole : SpellsStep (front ++ []) s = rw (append-nil front) h in
-    let simple = simple_name front [] s form whole in
-    by s.index (simple.1 ∙ append-nil front) (λ e. both_ways (is_keyword_text front) (ap is_keyword_text (sym e) ∙ plain_of_simple s.name simple.0) word)
-  where
-    by : (i : Option ℤ) → s.name ++ index_text i ≡ front → (s.name ≡ front → ⊥) → ⊥
-    by None e f = f (sym (append-nil s.name) ∙ e)
-    by (Some v) e f = false≢true (byte_of_all is_part_of_identifier s.name 91 (signed_decimal v ++ 93 ∷ []) (ap (list_all is_part_of_identifier) e ∙ parts_of_form front form))
 
 pub simple_is_step : (name : List ℕ) → has_form_of_identifier name ≡ true → is_keyword_text name ≡ false → length name ≤ 1024 → SpellsStep name (record { name = name; index = None })
 simple_is_step name form plain limit = record {
@@ -116,15 +76,6 @@ simple_is_step name form plain limit = record {
   named = name;
   spells_name = inl (simple_from name form plain, refl);
   whole = sym (append-nil name);
-}
-
-pub simple_opens : (name : List ℕ) → has_form_of_identifier name ≡ true → is_keyword_text name ≡ false → length name ≤ 1024 → HasNameThen (name ++ 91 ∷ []) name (91 ∷ [])
-simple_opens name form plain limit = record {
-  not_empty = some_bytes name form;
-  in_limit = limit;
-  named = name;
-  spells_name = inl (simple_from name form plain, refl);
-  parts = refl;
 }
 
 -- ---- escaped identifiers

@@ -12,8 +12,9 @@ use Rattle.std.specs.List.{list_all}
 use Rattle.std.specs.Str.{all_ascii_digits}
 use Rattle.std.specs.Str.Parse.{digits_value}
 use Rattle.sve_bytes.specs.declared.path.Step.{Step}
+use Rattle.sve_bytes.specs.Bytes.{begins_identifier, continues_identifier}
 use Rattle.sve_bytes.specs.PathReading.{IsIndex, SpellsName, SpellsStep}
-use Rattle.sve_bytes.specs.PathText.{is_first_of_identifier, is_part_of_identifier, has_form_of_identifier, is_simple_identifier, escaped, index_text}
+use Rattle.sve_bytes.specs.PathText.{has_form_of_identifier, is_simple_identifier, escaped, index_text}
 use Rattle.sve_bytes.specs.Keywords.{is_keyword_text}
 use Rattle.sve_bytes.proofs.TextSplits.{Stops, same_split}
 
@@ -26,19 +27,19 @@ either_of_five false true c false e h = refl
 either_of_five false false true false e h = refl
 either_of_five false false false false e h = absurd (false≢true h)
 
-pub part_of_first : (b : ℕ) → is_first_of_identifier b ≡ true → is_part_of_identifier b ≡ true
+pub part_of_first : (b : ℕ) → begins_identifier b ≡ true → continues_identifier b ≡ true
 part_of_first b h = either_of_five (is_in_range 65 90 b) (is_in_range 97 122 b) (b == 95) (is_in_range 48 57 b) (b == 36) h
 
-pub parts_of_form : (name : List ℕ) → has_form_of_identifier name ≡ true → list_all is_part_of_identifier name ≡ true
+pub parts_of_form : (name : List ℕ) → has_form_of_identifier name ≡ true → list_all continues_identifier name ≡ true
 parts_of_form [] h = absurd (false≢true h)
 parts_of_form (b ∷ bs) h =
-    let both = and_parts (is_first_of_identifier b) (list_all is_part_of_identifier bs) h in
-    and_from (is_part_of_identifier b) (list_all is_part_of_identifier bs) (part_of_first b both.0) both.1
+    let both = and_parts (begins_identifier b) (list_all continues_identifier bs) h in
+    and_from (continues_identifier b) (list_all continues_identifier bs) (part_of_first b both.0) both.1
 
 pub form_of_simple : (name : List ℕ) → is_simple_identifier name ≡ true → has_form_of_identifier name ≡ true
 form_of_simple name h = (and_parts (has_form_of_identifier name) (not (is_keyword_text name)) h).0
 
-pub parts_of_simple : (name : List ℕ) → is_simple_identifier name ≡ true → list_all is_part_of_identifier name ≡ true
+pub parts_of_simple : (name : List ℕ) → is_simple_identifier name ≡ true → list_all continues_identifier name ≡ true
 parts_of_simple name h = parts_of_form name (form_of_simple name h)
 
 -- no simple identifier begins with a backslash
@@ -46,17 +47,17 @@ pub no_form : (name r : List ℕ) (q : List ℕ) → has_form_of_identifier name
 no_form [] r q h e = false≢true h
 no_form (b ∷ bs) r q h e =
     let same : b ≡ 92 = cc in
-    false≢true (sym (ap is_first_of_identifier same) ∙ (and_parts (is_first_of_identifier b) (list_all is_part_of_identifier bs) h).0)
+    false≢true (sym (ap begins_identifier same) ∙ (and_parts (begins_identifier b) (list_all continues_identifier bs) h).0)
 
 -- ---- names
 
 pub escaped_then : (name q : List ℕ) → escaped name ++ q ≡ 92 ∷ name ++ 32 ∷ q
 escaped_then name q = append_assoc (92 ∷ name) (32 ∷ []) q
 
-pub names_agree : (t n u m q r : List ℕ) → SpellsName t n → SpellsName u m → Stops is_part_of_identifier q → Stops is_part_of_identifier r → t ++ q ≡ u ++ r → (t ≡ u) × (n ≡ m) × (q ≡ r)
+pub names_agree : (t n u m q r : List ℕ) → SpellsName t n → SpellsName u m → Stops continues_identifier q → Stops continues_identifier r → t ++ q ≡ u ++ r → (t ≡ u) × (n ≡ m) × (q ≡ r)
 names_agree t n u m q r (inl a) (inl b) hq hr e =
     let texts : n ++ q ≡ m ++ r = ap (λ (x : List ℕ). x ++ q) (sym a.1) ∙ e ∙ ap (λ (x : List ℕ). x ++ r) b.1 in
-    let both = same_split is_part_of_identifier n m q r (parts_of_simple n a.0) (parts_of_simple m b.0) hq hr texts in
+    let both = same_split continues_identifier n m q r (parts_of_simple n a.0) (parts_of_simple m b.0) hq hr texts in
     (a.1 ∙ both.0 ∙ sym b.1, both.0, both.1)
 names_agree t n u m q r (inl a) (inr b) hq hr e =
     absurd (no_form n (m ++ 32 ∷ r) q (form_of_simple n a.0) (ap (λ (x : List ℕ). x ++ q) (sym a.1) ∙ e ∙ ap (λ (x : List ℕ). x ++ r) b.1 ∙ escaped_then m r))
@@ -113,11 +114,11 @@ abbrev pub Ends : List ℕ → Type 0
 Ends [] = Unit {0}
 Ends (b ∷ bs) = b ≡ 46
 
-pub ends_part : (q : List ℕ) → Ends q → Stops is_part_of_identifier q
+pub ends_part : (q : List ℕ) → Ends q → Stops continues_identifier q
 ends_part [] h = tt
-ends_part (b ∷ q) h = ap is_part_of_identifier h
+ends_part (b ∷ q) h = ap continues_identifier h
 
-pub index_stops : (i : Option ℤ) (q : List ℕ) → Stops is_part_of_identifier q → Stops is_part_of_identifier (index_text i ++ q)
+pub index_stops : (i : Option ℤ) (q : List ℕ) → Stops continues_identifier q → Stops continues_identifier (index_text i ++ q)
 index_stops None q h = h
 index_stops (Some v) q h = refl
 

@@ -1,3 +1,4 @@
+pub mod Bytes
 pub mod FileName
 pub mod Keywords
 pub mod LineColumn
@@ -5,3 +6,4 @@ pub mod PathOrder
 pub mod PathReading
 pub mod PathStages
 pub mod PathText
+pub mod TreeOrder

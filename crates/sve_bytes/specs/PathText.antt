@@ -1,23 +1,16 @@
 -- How a path is spelled (own; identifiers by IEEE 1800-2017, 5.6 and 5.6.1).
-use Rattle.std.specs.Prelude.{ℕ, ◌==◌, Bool, false, not, ◌&&◌, ◌||◌, Option, Some, None, ℤ, List, [], ◌∷◌, ◌++◌, if◌then◌else◌}
-use Rattle.std.specs.Char.{is_ascii_alphabetic, is_ascii_alphanumeric}
+use Rattle.std.specs.Prelude.{ℕ, Bool, false, not, ◌&&◌, Option, Some, None, ℤ, List, [], ◌∷◌, ◌++◌, if◌then◌else◌}
 use Rattle.std.specs.Fmt.{signed_decimal}
 use Rattle.std.specs.List.{list_all, flat_map}
 use Rattle.sve_bytes.specs.declared.path.Step.{Step}
+use Rattle.sve_bytes.specs.Bytes.{begins_identifier, continues_identifier}
+pub use Rattle.sve_bytes.specs.Bytes.{begins_identifier as is_first_of_identifier, continues_identifier as is_part_of_identifier}
 use Rattle.sve_bytes.specs.Keywords.{is_keyword_text}
-
--- a letter or `_`
-abbrev pub is_first_of_identifier : ℕ → Bool
-is_first_of_identifier b = is_ascii_alphabetic b || b == 95
-
--- a letter, a digit, `_` or `$`
-abbrev pub is_part_of_identifier : ℕ → Bool
-is_part_of_identifier b = is_ascii_alphanumeric b || b == 95 || b == 36
 
 -- a letter or `_`, then letters, digits, `_` and `$`
 abbrev pub has_form_of_identifier : List ℕ → Bool
 has_form_of_identifier [] = false
-has_form_of_identifier (b ∷ bs) = is_first_of_identifier b && list_all is_part_of_identifier bs
+has_form_of_identifier (b ∷ bs) = begins_identifier b && list_all continues_identifier bs
 
 -- a simple identifier: of that form, and no keyword
 abbrev pub is_simple_identifier : List ℕ → Bool

@@ -1,9 +1,11 @@
 //! Names and lists of bytes, the vocabulary of every layer above.
 #![tactic(auto)]
 
+mod bytes;
 mod direction;
 mod file_name;
 mod keyword;
+mod laws;
 mod list;
 mod name;
 mod net_type;
@@ -13,9 +15,14 @@ mod path_reading;
 mod position;
 mod span;
 
+pub use bytes::{
+    begins_identifier, continues_identifier, identifier_len, identifier_rest_len, is_white_space,
+    white_space_len,
+};
 pub use direction::Dir;
 pub use file_name::is_file_name;
 pub use keyword::{Keyword, is_keyword, keywords_from};
+pub use laws::trees_are_ordered;
 pub use list::List;
 pub use name::{BadName, Name};
 pub use net_type::NetType;

@@ -1,8 +1,9 @@
 ghost use Rattle.std.specs.Prelude.{◌≡◌, ◌++◌, IfOk, OnOk, length};
 ghost use Rattle.std.specs.List.{list_all};
-ghost use Rattle.sve_bytes.specs.PathText.{name_text, index_text, is_first_of_identifier, is_part_of_identifier, has_form_of_identifier, is_simple_identifier, step_text, path_text};
+ghost use Rattle.sve_bytes.specs.Bytes.{continues_identifier};
+ghost use Rattle.sve_bytes.specs.PathText.{name_text, index_text, has_form_of_identifier, is_simple_identifier, step_text, path_text};
 
-use crate::{List, Name, NoMemory, is_keyword};
+use crate::{List, Name, NoMemory, begins_identifier, continues_identifier, is_keyword};
 use std::alloc::Global;
 
 /// One step of a path: a name and, for a block of a generate loop, the value of its genvar (IEEE 1800-2017, 23.6).
@@ -21,29 +22,17 @@ pub struct Path {
     pub steps: List<Step>,
 }
 
-pub(crate) fn is_first_of_identifier(byte: u8) -> bool
-    ensures { result ≡ is_first_of_identifier byte }
-{
-    byte.is_ascii_alphabetic() || byte == b'_'
-}
-
-pub(crate) fn is_part_of_identifier(byte: u8) -> bool
-    ensures { result ≡ is_part_of_identifier byte }
-{
-    byte.is_ascii_alphanumeric() || byte == b'_' || byte == b'$'
-}
-
 fn are_parts_of_identifier(bytes: &[u8]) -> bool
-    ensures { result ≡ list_all is_part_of_identifier bytes.now }
+    ensures { result ≡ list_all continues_identifier bytes.now }
 {
-    bytes.iter().all(|b| is_part_of_identifier(*b))
+    bytes.iter().all(|b| continues_identifier(*b))
 }
 
 fn has_form_of_identifier(name: &[u8]) -> bool
     ensures { result ≡ has_form_of_identifier name.now }
 {
     match name.split_first() {
-        Some((first, rest)) => is_first_of_identifier(*first) && are_parts_of_identifier(rest),
+        Some((first, rest)) => begins_identifier(*first) && are_parts_of_identifier(rest),
         None => false,
     }
 }

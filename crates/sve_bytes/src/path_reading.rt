@@ -4,8 +4,9 @@ ghost use Rattle.sve_bytes.specs.PathText.{path_text};
 ghost use Rattle.sve_bytes.specs.PathStages.{step_found, signed_value, IsSize, Stands, GoesOn, IsWhole};
 
 use crate::name::MAX_NAME_LEN;
-use crate::path::{is_first_of_identifier, is_part_of_identifier};
-use crate::{Name, NoMemory, Path, Step, is_keyword};
+use crate::{
+    BadName, Name, NoMemory, Path, Step, begins_identifier, continues_identifier, is_keyword,
+};
 use std::alloc::{AllocError, Global};
 use thiserror::Error;
 
@@ -72,7 +73,7 @@ fn whole<'a>(stage: Stage<'a>, so_far: &'a [u8]) -> Option<Found<'a>>
 fn after_nothing<'a>(byte: u8) -> Option<Stage<'a>>
     ensures { GoesOn [] byte result }
 {
-    if is_first_of_identifier(byte) {
+    if begins_identifier(byte) {
         Some(Stage::Simple)
     } else if byte == b'\\' {
         Some(Stage::Escaped)
@@ -85,7 +86,7 @@ fn after_simple<'a>(so_far: &'a [u8], byte: u8) -> Option<Stage<'a>>
     requires { Stands so_far.now Stage.Simple }
     ensures { GoesOn so_far.now byte result }
 {
-    if is_part_of_identifier(byte) {
+    if continues_identifier(byte) {
         if so_far.len() == MAX_NAME_LEN {
             return None;
         }
@@ -207,7 +208,9 @@ fn push_found(alloc: Global, steps: &mut Vec<Step>, found: Found<'_>) -> Result<
             })?;
             Ok(())
         }
-        Err(_) => Err(AllocError),
+        Err(BadName::NoMemory) => Err(AllocError),
+        Err(BadName::Empty) => unreachable!(),
+        Err(BadName::TooLong(_)) => unreachable!(),
     }
 }
 
