@@ -33,6 +33,3 @@ pub use span::Span;
 
 /// Want of memory, where it is all that can go wrong in a call.
 pub type NoMemory = std::alloc::AllocError;
-
-#[cfg(test)]
-mod tests;

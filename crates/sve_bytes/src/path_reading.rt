@@ -102,7 +102,9 @@ fn after_escaped<'a>(so_far: &'a [u8], byte: u8) -> Option<Stage<'a>>
     requires { Stands so_far.now Stage.Escaped }
     ensures { GoesOn so_far.now byte result }
 {
-    let (_, name) = so_far.split_first()?;
+    let Some((_, name)) = so_far.split_first() else {
+        unreachable!()
+    };
     if byte.is_ascii_graphic() {
         if name.len() == MAX_NAME_LEN {
             return None;
@@ -269,96 +271,6 @@ impl Path {
                 })
             }
             None => Err(BadPath::At(text.len())),
-        }
-    }
-}
-
-#[cfg(test)]
-mod tests {
-    use super::BadPath;
-    use crate::Path;
-    use std::test::Fail;
-
-    #[test]
-    fn reads_and_prints(rt: HostRuntime) -> Result<(), Fail> {
-        let table: [(&[u8], &[u8]); 13] = [
-            (b"top", b"top"),
-            (b"top.u_1.g[0].x$y", b"top.u_1.g[0].x$y"),
-            (b"_a.b[-1]", b"_a.b[-1]"),
-            (b"g[2147483647]", b"g[2147483647]"),
-            (b"g[-2147483648].h", b"g[-2147483648].h"),
-            (b"\\module ", b"\\module "),
-            (b"\\a.b[0] .c", b"\\a.b[0] .c"),
-            (b"\\a+b [3].c", b"\\a+b [3].c"),
-            (b"\\plain .b", b"plain.b"),
-            (b"\\$root .a", b"\\$root .a"),
-            (b"\\\\ ", b"\\\\ "),
-            (b"modules", b"modules"),
-            (b"", b""),
-        ];
-        for (text, want) in table {
-            let path = Path::read(rt.alloc(), text)?;
-            assert_eq!(rt; path.print(rt.alloc())?.as_slice(), want);
-            assert!(rt; Path::read(rt.alloc(), want)? == path);
-            assert!(rt; path.copy(rt.alloc())? == path);
-        }
-        Ok(())
-    }
-
-    #[test]
-    fn stops(rt: HostRuntime) {
-        let table: [(&[u8], usize); 30] = [
-            (b".", 0),
-            (b"a.", 2),
-            (b"a..b", 2),
-            (b"1a", 0),
-            (b"a b", 1),
-            (b"a.1", 2),
-            (b"$root.a", 0),
-            (b"module", 6),
-            (b"module.a", 6),
-            (b"module[0]", 6),
-            (b"a.if", 4),
-            (b"\\", 1),
-            (b"\\ ", 1),
-            (b"\\a", 2),
-            (b"\\a.b", 4),
-            (b"\\a\tb", 2),
-            (b"\\a  ", 3),
-            (b"\\a\x80", 2),
-            (b"a[", 2),
-            (b"a[]", 2),
-            (b"a[-]", 3),
-            (b"a[-0]", 3),
-            (b"a[01]", 3),
-            (b"a[0", 3),
-            (b"a[0]b", 4),
-            (b"a[0][1]", 4),
-            (b"a[2147483648]", 11),
-            (b"a[-2147483649]", 12),
-            (b"a[+1]", 2),
-            (b"a[1 ]", 3),
-        ];
-        for (text, want) in table {
-            match Path::read(rt.alloc(), text) {
-                Err(BadPath::At(at)) => assert_eq!(rt; at, want),
-                _ => assert!(rt; false, "a text that is no path"),
-            }
-        }
-    }
-
-    #[test]
-    fn stops_at_every_byte(rt: HostRuntime) {
-        let text = b"top.\\g.0 [-10].x_1[2147483647].y";
-        let paths = [0, 1, 2, 3, 9, 14, 16, 17, 18, 30, 32];
-        for n in 0..=text.len() {
-            let front = &text[..n];
-            let is_path = paths.contains(&n);
-            match Path::read(rt.alloc(), front) {
-                Ok(_) => assert!(rt; is_path, "{n} bytes"),
-                Err(BadPath::At(at)) => assert!(rt; !is_path && at == n, "{n} bytes"),
-                Err(BadPath::NoMemory) => assert!(rt; false, "no memory"),
-            }
         }
     }
 }

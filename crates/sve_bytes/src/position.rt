@@ -30,32 +30,3 @@ pub fn line_col(text: &[u8], at: usize) -> (u32, u32)
         bytes_in_last_line(before) as u32 + 1,
     )
 }
-
-#[cfg(test)]
-mod tests {
-    use super::line_col;
-
-    #[test]
-    fn lines_and_columns(rt: HostRuntime) {
-        let table: [(&[u8], usize, (u32, u32)); 14] = [
-            (b"", 0, (1, 1)),
-            (b"module a;\nendmodule\n", 0, (1, 1)),
-            (b"module a;\nendmodule\n", 8, (1, 9)),
-            (b"module a;\nendmodule\n", 9, (1, 10)),
-            (b"module a;\nendmodule\n", 10, (2, 1)),
-            (b"module a;\nendmodule\n", 19, (2, 10)),
-            (b"module a;\nendmodule\n", 20, (3, 1)),
-            (b"a\nbc", 3, (2, 2)),
-            (b"a\nbc", 4, (2, 3)),
-            (b"a\r\nb\r\n", 1, (1, 2)),
-            (b"a\r\nb\r\n", 2, (1, 3)),
-            (b"a\r\nb\r\n", 5, (2, 3)),
-            (b"\n\n\n", 2, (3, 1)),
-            (b"\xc3\xa9x\n", 2, (1, 3)),
-        ];
-        for (text, at, want) in table {
-            assert!(rt; at <= text.len() && text.len() < 100);
-            assert_eq!(rt; line_col(text, at), want, "at {at}");
-        }
-    }
-}

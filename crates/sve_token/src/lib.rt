@@ -13,6 +13,3 @@ pub use kind::Kind;
 pub use lookup::keyword;
 pub use operators::{Operator, operators_from};
 pub use token::Token;
-
-#[cfg(test)]
-mod tests;
