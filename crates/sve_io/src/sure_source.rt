@@ -57,26 +57,3 @@ impl Source for SureSource {
         Got::Bytes(count)
     }
 }
-
-#[cfg(test)]
-mod tests {
-    use super::*;
-    use std::test::Fail;
-
-    fn next<S: Source>(source: &mut S, into: &mut [u8]) -> Got {
-        source.read(into)
-    }
-
-    #[test]
-    fn gives_all_and_then_ends(rt: HostRuntime) -> Result<(), Fail> {
-        let mut source = SureSource::new(b"abcdef".to_vec(rt.alloc())?);
-        let mut buffer = *b"....";
-        assert_eq!(rt; next(&mut source, &mut buffer), Got::Bytes(4));
-        assert_eq!(rt; buffer.as_slice(), b"abcd".as_slice());
-        assert_eq!(rt; next(&mut source, &mut []), Got::Bytes(0));
-        assert_eq!(rt; next(&mut source, &mut buffer), Got::Bytes(2));
-        assert_eq!(rt; buffer.as_slice(), b"efcd".as_slice());
-        assert_eq!(rt; next(&mut source, &mut buffer), Got::End);
-        Ok(())
-    }
-}

@@ -11,6 +11,3 @@ pub use expanded::Expanded;
 pub use laws::segment_by_segment;
 pub use output::Output;
 pub use segment::Segment;
-
-#[cfg(test)]
-mod tests;

@@ -9,8 +9,6 @@ mod equivalence;
 mod printing;
 mod signs;
 mod states;
-#[cfg(test)]
-mod tests;
 mod ty;
 mod value;
 mod widths;

@@ -28,3 +28,10 @@ impl Value {
         }
     }
 }
+
+/// What threads may share: an `impl` is refused where they may not.
+trait IsShared: Send + Sync {}
+
+impl IsShared for Ty {}
+
+impl IsShared for Value {}

@@ -14,8 +14,6 @@ mod moves;
 mod operators;
 mod reductions;
 mod relations;
-#[cfg(test)]
-mod tests;
 mod text;
 mod whole;
 
