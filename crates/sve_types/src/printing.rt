@@ -1,4 +1,5 @@
 ghost use Rattle.std.specs.Prelude.{◌≡◌, ◌++◌, IfOk, OnOk};
+ghost use Rattle.std.specs.Fmt.{signed_decimal};
 ghost use Rattle.sve_bytes.specs.PathText.{name_text};
 ghost use Rattle.sve_types.specs.View.{form_of, members_of};
 ghost use Rattle.sve_types.specs.TypeText.{atom_word, vec_word, atom_is_signed, sign_text, range_text, dimensions_text, unpacked_text, named_value_text, names_text, opening_text, text_of, form_text, members_text};
@@ -48,14 +49,20 @@ fn append_sign(text: &mut Vec<u8>, unless_said: bool, signed: bool) -> Result<()
     }
 }
 
+fn append_number(text: &mut Vec<u8>, number: i32) -> Result<(), NoMemory>
+    ensures { OnOk result (text.new.items ≡ text.old.items ++ signed_decimal number) }
+{
+    let mut buffer = Buffer::new();
+    text.extend_from_slice(buffer.format(number).as_bytes())
+}
+
 fn append_dimension(text: &mut Vec<u8>, range: Range) -> Result<(), NoMemory>
     ensures { OnOk result (text.new.items ≡ text.old.items ++ range_text range) }
 {
-    let mut buffer = Buffer::new();
     text.extend_from_slice(b" [")?;
-    text.extend_from_slice(buffer.format(range.left).as_bytes())?;
+    append_number(text, range.left)?;
     text.extend_from_slice(b":")?;
-    text.extend_from_slice(buffer.format(range.right).as_bytes())?;
+    append_number(text, range.right)?;
     text.extend_from_slice(b"]")
 }
 
