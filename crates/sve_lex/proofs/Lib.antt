@@ -1,11 +1,11 @@
 mod Cutting
-mod Dispatch
+pub mod Dispatch
 mod Longest
 mod Numbers
 mod OneList
-mod Pieces
-mod Runs
+pub mod Pieces
+pub mod Runs
 mod Spots
-mod Strings
+pub mod Strings
 mod Tables
 mod TokenSteps

@@ -6,7 +6,8 @@ use Rattle.sve_lex.proofs.Longest.{longest_cons, longest_end, longest_same, long
 use Rattle.sve_token.specs.Operators.{operators, operator_of, entries_after}
 use Rattle.sve_token.specs.declared.kind.Kind.{Kind}
 use Rattle.sve_token.specs.declared.kind.Kind.TheVariants.{Based}
-use Rattle.sve_lex.specs.Bytes.{is_white_space, begins_number, continues_number, lower}
+use Rattle.sve_bytes.specs.Bytes.{is_white_space}
+use Rattle.sve_lex.specs.Bytes.{begins_number, continues_number, lower}
 use Rattle.sve_lex.specs.Classes.{run, constant, digits, based, as_lexeme, operator, listed}
 use Rattle.sve_lex.specs.Shift.{further}
 use Rattle.sve_lex.specs.declared.class.Class.{Class}

@@ -3,17 +3,17 @@ use Rattle.std.proofs.Common.{◌≡◌, ℕ, ◌+◌, ◌<◌, ◌≤◌, List,
 use Rattle.std.specs.List.{prefix_len}
 use Rattle.std.proofs.lemmas.List.Folds.{length-prefix_len}
 use Rattle.sve_lex.specs.Longest.{Form, after, longest, or_here}
-use Rattle.sve_bytes.specs.PathText.{is_part_of_identifier}
+use Rattle.sve_bytes.specs.Bytes.{continues_identifier}
 use Rattle.sve_lex.proofs.Longest.{longest_cons, longest_within}
 use Rattle.sve_lex.specs.Classes.{run, word_class, word_kind, named, begins, class_of, or_bad, piece_of}
 use Rattle.sve_lex.specs.declared.class.Class.{Class}
 use Rattle.sve_lex.proofs.Runs.{run_longest, one_more}
 
-pub word_longest : (cs : List ℕ) (n : ℕ) → 0 < length cs → n ≡ prefix_len is_part_of_identifier (drop 1 cs) → longest (drop 1 cs) (run is_part_of_identifier (word_class (get_or cs 0 0))) ≡ Some (named (word_kind (take (n + 1) cs)) (n + 1), n)
+pub word_longest : (cs : List ℕ) (n : ℕ) → 0 < length cs → n ≡ prefix_len continues_identifier (drop 1 cs) → longest (drop 1 cs) (run continues_identifier (word_class (get_or cs 0 0))) ≡ Some (named (word_kind (take (n + 1) cs)) (n + 1), n)
 word_longest [] n l z = absurd (omega arith)
 word_longest (c ∷ cs) n l z =
-    run_longest is_part_of_identifier (word_class c) cs
-    ∙ ap (λ m. Some (named (word_kind (c ∷ take (prefix_len is_part_of_identifier cs) cs)) (1 + m), prefix_len is_part_of_identifier cs)) (length-prefix_len is_part_of_identifier cs)
+    run_longest continues_identifier (word_class c) cs
+    ∙ ap (λ m. Some (named (word_kind (c ∷ take (prefix_len continues_identifier cs) cs)) (1 + m), prefix_len continues_identifier cs)) (length-prefix_len continues_identifier cs)
     ∙ ap (λ m. Some (named (word_kind (c ∷ take m cs)) (1 + m), m)) (sym z)
     ∙ rw (add-one, one_more) refl
 

@@ -23,20 +23,20 @@ pub longest_empty : (w : Class) (cs : List ℕ) → longest cs (λ s rest. when 
 longest_empty w [] = longest_end (λ s rest. when (is_empty s) w)
 longest_empty w (c ∷ cs) = longest_here c cs (λ s rest. when (is_empty s) w) (λ s rest e. refl)
 
-string_end : (escaped : Bool) → longest [] (string escaped) ≡ Some (Lexeme Bad, 0)
+pub string_end : (escaped : Bool) → longest [] (string escaped) ≡ Some (Lexeme Bad, 0)
 string_end true = longest_end (string true)
 string_end false = longest_end (string false)
 
-string_escaped : (c : ℕ) (cs : List ℕ) → longest (c ∷ cs) (string true) ≡ or_here (longest cs (string false)) None
+pub string_escaped : (c : ℕ) (cs : List ℕ) → longest (c ∷ cs) (string true) ≡ or_here (longest cs (string false)) None
 string_escaped c cs = longest_cons c cs (string true)
 
-string_quote : (c : ℕ) (cs : List ℕ) → c ≡ 34 → longest (c ∷ cs) (string false) ≡ Some (Lexeme Text, 1)
+pub string_quote : (c : ℕ) (cs : List ℕ) → c ≡ 34 → longest (c ∷ cs) (string false) ≡ Some (Lexeme Text, 1)
 string_quote c cs e = rw e (longest_cons 34 cs (string false) ∙ ap (λ r. or_here r None) (longest_empty (Lexeme Text) cs))
 
-string_feed : (c : ℕ) (cs : List ℕ) → c ≡ 10 → longest (c ∷ cs) (string false) ≡ Some (Lexeme Bad, 0)
+pub string_feed : (c : ℕ) (cs : List ℕ) → c ≡ 10 → longest (c ∷ cs) (string false) ≡ Some (Lexeme Bad, 0)
 string_feed c cs e = rw e (longest_here 10 cs (string false) (λ s rest g. refl))
 
-string_byte : (c : ℕ) (cs : List ℕ) → nat_eq c 34 ≡ false → nat_eq c 10 ≡ false → longest (c ∷ cs) (string false) ≡ or_here (longest cs (string (nat_eq c 92))) None
+pub string_byte : (c : ℕ) (cs : List ℕ) → nat_eq c 34 ≡ false → nat_eq c 10 ≡ false → longest (c ∷ cs) (string false) ≡ or_here (longest cs (string (nat_eq c 92))) None
 string_byte c cs e f =
     longest_cons c cs (string false)
     ∙ ap (or_here (longest cs (after c (string false)))) (rw f refl)
@@ -70,16 +70,16 @@ pub string_on_byte : (cs : List ℕ) (i : ℕ) → i < length cs → further i (
 string_on_byte cs i l same e f =
     sym (ap (λ t. further i (longest t (string false))) (drop-cons cs i 0 l) ∙ ap (further i) (string_byte _ _ e f) ∙ further_more i _ ∙ ap (λ k. further (i + 1) (longest (drop k cs) (string (nat_eq (get_or cs i 0) 92)))) (sym (add-one i))) ∙ same
 
-closes_end : (close : ℕ) (star : Bool) → longest [] (closes close star) ≡ Some (Lexeme Bad, 0)
+pub closes_end : (close : ℕ) (star : Bool) → longest [] (closes close star) ≡ Some (Lexeme Bad, 0)
 closes_end close star = longest_end (closes close star)
 
-closes_close : (close : ℕ) (star : Bool) (c : ℕ) (cs : List ℕ) → star ≡ true → c ≡ close → longest (c ∷ cs) (closes close star) ≡ Some (Separator, 1)
+pub closes_close : (close : ℕ) (star : Bool) (c : ℕ) (cs : List ℕ) → star ≡ true → c ≡ close → longest (c ∷ cs) (closes close star) ≡ Some (Separator, 1)
 closes_close close star c cs e h =
     let t : (star && nat_eq c close) ≡ true = rw (e, h) (eq-eqb close close refl) in
     longest_cons c cs (closes close star)
     ∙ ap (λ r. or_here r None) (longest_same cs (after c (closes close star)) (λ s rest. when (is_empty s) Separator) (λ s rest g. rw t refl) ∙ longest_empty Separator cs)
 
-closes_byte : (close : ℕ) (star : Bool) (c : ℕ) (cs : List ℕ) → (star && nat_eq c close) ≡ false → longest (c ∷ cs) (closes close star) ≡ or_here (longest cs (closes close (nat_eq c 42))) None
+pub closes_byte : (close : ℕ) (star : Bool) (c : ℕ) (cs : List ℕ) → (star && nat_eq c close) ≡ false → longest (c ∷ cs) (closes close star) ≡ or_here (longest cs (closes close (nat_eq c 42))) None
 closes_byte close star c cs t =
     longest_cons c cs (closes close star)
     ∙ ap (λ r. or_here r None) (longest_same cs (after c (closes close star)) (closes close (nat_eq c 42)) (λ s rest g. rw t refl))

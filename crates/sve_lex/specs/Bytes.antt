@@ -1,10 +1,6 @@
 -- Which bytes may stand where in a token (IEEE 1800-2017, clause 5).
 use Rattle.std.specs.Prelude.{ℕ, Bool, false, ◌||◌, ◌&&◌, not, ◌==◌, nat_le, if◌then◌else◌}
-use Rattle.sve_bytes.specs.PathText.{is_first_of_identifier}
-
--- space, tab, line feed, carriage return, form feed (5.3)
-abbrev pub is_white_space : ℕ → Bool
-is_white_space b = b == 32 || b == 9 || b == 10 || b == 13 || b == 12
+use Rattle.sve_bytes.specs.Bytes.{begins_identifier}
 
 -- `0` to `9`
 abbrev pub is_digit : ℕ → Bool
@@ -63,4 +59,4 @@ continues_number base first b =
 
 -- a letter, a digit, `_` or `?`
 abbrev pub is_literal_part : ℕ → Bool
-is_literal_part b = is_first_of_identifier b || is_digit b || b == 63
+is_literal_part b = begins_identifier b || is_digit b || b == 63

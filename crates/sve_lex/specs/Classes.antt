@@ -2,7 +2,7 @@
 use Rattle.std.specs.Prelude.{ℕ, ◌+◌, Bool, true, false, ◌&&◌, not, ◌==◌, nat_le, if◌then◌else◌, List, [], ◌∷◌, ◌++◌, length, Option, Some, None, unwrap_or}
 use Rattle.std.specs.List.{list_all}
 use Rattle.std.specs.Option.{option_map}
-use Rattle.sve_bytes.specs.PathText.{is_first_of_identifier, is_part_of_identifier}
+use Rattle.sve_bytes.specs.Bytes.{is_white_space, begins_identifier, continues_identifier}
 use Rattle.sve_token.specs.Keywords.{keyword_of}
 use Rattle.sve_token.specs.Operators.{Entry, lookup, operator_of}
 use Rattle.sve_token.specs.declared.kind.Kind.{Kind}
@@ -10,7 +10,7 @@ use Rattle.sve_token.specs.declared.kind.Kind.TheVariants.{Identifier, SystemNam
 use Rattle.sve_lex.specs.declared.class.Class.{Class}
 use Rattle.sve_lex.specs.declared.class.Class.TheVariants.{Separator, Lexeme}
 use Rattle.sve_lex.specs.Longest.{Form, longest}
-use Rattle.sve_lex.specs.Bytes.{is_white_space, is_digit, is_decimal_part, is_printable, is_in_line, is_unbased_digit, is_sign, lower, begins_number, continues_number, is_literal_part}
+use Rattle.sve_lex.specs.Bytes.{is_digit, is_decimal_part, is_printable, is_in_line, is_unbased_digit, is_sign, lower, begins_number, continues_number, is_literal_part}
 
 abbrev pub when : Bool → Class → Option Class
 when b w = if b then Some w else None
@@ -134,10 +134,10 @@ quote (c ∷ s) rest = if c == 123 then operator 39 (c ∷ s) rest else after_qu
 unfoldable pub begins : ℕ → Form Class
 begins b =
     if is_white_space b then run is_white_space (constant Separator)
-    else if is_first_of_identifier b then run is_part_of_identifier (word_class b)
+    else if begins_identifier b then run continues_identifier (word_class b)
     else if is_digit b then run is_decimal_part (constant (Lexeme Decimal))
     else if b == 92 then filled_run is_printable escaped_class
-    else if b == 36 then filled_run is_part_of_identifier (constant (Lexeme SystemName))
+    else if b == 36 then filled_run continues_identifier (constant (Lexeme SystemName))
     else if b == 34 then string false
     else if b == 39 then quote
     else if b == 47 then slash

@@ -1,35 +1,15 @@
 ghost use Rattle.std.specs.Prelude.{◌≡◌, ◌==◌, ℕ, length, ◌≤◌, not};
 ghost use Rattle.std.specs.List.{prefix_len};
-ghost use Rattle.sve_bytes.specs.PathText.{is_first_of_identifier, is_part_of_identifier};
-ghost use Rattle.sve_lex.specs.Bytes.{is_white_space, is_digit, is_decimal_part, is_printable, is_in_line, is_unknown, is_unbased_digit, is_sign, is_base, lower, is_digit_of, begins_number, continues_number, is_literal_part};
+ghost use Rattle.sve_lex.specs.Bytes.{is_digit, is_decimal_part, is_printable, is_in_line, is_unknown, is_unbased_digit, is_sign, is_base, lower, is_digit_of, begins_number, continues_number, is_literal_part};
 ghost use Rattle.sve_lex.specs.Classes.{shuts, goes_on};
 
-/// Whether a byte is white space (IEEE 1800-2017, 5.3): space, tab, line feed, carriage return or form feed.
-pub fn is_white_space(b: u8) -> bool
-    ensures { result ≡ is_white_space b }
-{
-    b == b' ' || b == b'\t' || b == b'\n' || b == b'\r' || b == 12
-}
+use sve_bytes::{begins_identifier, is_white_space};
 
 /// Whether a byte is a decimal digit.
 pub fn is_digit(b: u8) -> bool
     ensures { result ≡ is_digit b }
 {
     b'0' <= b && b <= b'9'
-}
-
-/// Whether a byte begins a simple identifier (5.6).
-pub fn is_first_of_identifier(b: u8) -> bool
-    ensures { result ≡ is_first_of_identifier b }
-{
-    b.is_ascii_alphabetic() || b == b'_'
-}
-
-/// Whether a byte may stand in a simple identifier or a system name (5.6, 5.6.3).
-pub fn is_part_of_identifier(b: u8) -> bool
-    ensures { result ≡ is_part_of_identifier b }
-{
-    b.is_ascii_alphanumeric() || b == b'_' || b == b'$'
 }
 
 /// Whether a byte may stand in a decimal number (5.7.1).
@@ -120,25 +100,7 @@ fn continues_number(base: u8, first: u8, b: u8) -> bool
 fn is_literal_part(b: u8) -> bool
     ensures { result ≡ is_literal_part b }
 {
-    is_first_of_identifier(b) || is_digit(b) || b == b'?'
-}
-
-/// How many bytes of white space begin a text.
-pub fn white_space_len(text: &[u8]) -> usize
-    ensures value { result ≡ prefix_len is_white_space text.now }
-    ensures within { result ≤ length text.now }
-{
-    text.iter().take_while(|b| is_white_space(**b)).count()
-}
-
-/// How many bytes that may stand in an identifier begin a text.
-pub fn identifier_len(text: &[u8]) -> usize
-    ensures value { result ≡ prefix_len is_part_of_identifier text.now }
-    ensures within { result ≤ length text.now }
-{
-    text.iter()
-        .take_while(|b| is_part_of_identifier(**b))
-        .count()
+    begins_identifier(b) || is_digit(b) || b == b'?'
 }
 
 /// How many bytes that may stand in a decimal number begin a text.

@@ -1,4 +1,4 @@
-ghost use Rattle.std.specs.Prelude.{◌≡◌, ℕ, ◌+◌, ◌<◌, ◌^◌, length, take, IfOk};
+ghost use Rattle.std.specs.Prelude.{◌≡◌, ℕ, ◌+◌, ◌<◌, ◌≤◌, ◌^◌, length, take, IfOk};
 ghost use Rattle.std.specs.List.{All};
 ghost use Rattle.sve_origin.specs.Origins.{cells, HasOffset};
 ghost use Rattle.sve_lex.specs.Tokens.{tokens, token_at, long_text};
@@ -7,23 +7,28 @@ use crate::Class;
 use crate::cursor::{start, walk};
 use crate::scan::{past, piece};
 use std::alloc::{AllocError, Global};
-use sve_bytes::{List, Name, NoMemory};
+use sve_bytes::{BadName, List, Name, NoMemory};
 use sve_diag::Place;
 use sve_origin::{Expanded, Segment};
 use sve_token::{Kind, Token};
 
-/// The name that the bytes are.
+/// The name that the bytes are, of which there are as many as a name may have.
 fn name_of(alloc: Global, bytes: &[u8]) -> Result<Name, NoMemory>
+    requires filled { 0 < length bytes.now }
+    requires short { length bytes.now ≤ 1024 }
     ensures { IfOk result (λ n. n ≡ bytes.now) }
 {
     match Name::of(alloc, bytes) {
         Ok(name) => Ok(name),
-        Err(_) => Err(AllocError),
+        Err(BadName::NoMemory) => Err(AllocError),
+        Err(BadName::Empty) => unreachable!(),
+        Err(BadName::TooLong(_)) => unreachable!(),
     }
 }
 
 /// The name that the bytes are, or the first 1,024 of them.
 fn spelling(alloc: Global, bytes: &[u8]) -> Result<Name, NoMemory>
+    requires { 0 < length bytes.now }
     ensures { IfOk result (λ n. n ≡ take 1024 bytes.now) }
 {
     if bytes.len() > 1024 {
@@ -51,6 +56,7 @@ fn token(
     offset: u32,
     copied: bool,
 ) -> Result<Token, NoMemory>
+    requires { 0 < length bytes.now }
     ensures { IfOk result (λ t. t ≡ token_at kind bytes.now (record { file = segment.now.place.file; offset = offset }) copied) }
 {
     Ok(Token {

@@ -12,6 +12,3 @@ mod scan;
 pub use class::Class;
 pub use laws::text_has_one_list_of_pieces;
 pub use lexing::lex;
-
-#[cfg(test)]
-mod tests;

@@ -1,19 +1,19 @@
 ghost use Rattle.std.specs.Prelude.{◌≡◌, ℕ, length, slice_index, ◌<◌, ◌≤◌, ◌+◌, ◌^◌, drop, Bool, false, IfSome, Option, Some, None, if◌then◌else◌};
-ghost use Rattle.sve_bytes.specs.PathText.{is_part_of_identifier};
+ghost use Rattle.sve_bytes.specs.Bytes.{is_white_space, continues_identifier};
 ghost use Rattle.sve_token.specs.declared.kind.Kind.TheVariants.{SystemName, Decimal};
 ghost use Rattle.sve_lex.specs.declared.class.Class.TheVariants.{Separator, Lexeme};
 ghost use Rattle.sve_lex.specs.Longest.{longest, or_here};
 ghost use Rattle.sve_lex.specs.Shift.{further};
-ghost use Rattle.sve_lex.specs.Bytes.{is_white_space, is_decimal_part, is_printable, is_in_line};
+ghost use Rattle.sve_lex.specs.Bytes.{is_decimal_part, is_printable, is_in_line};
 ghost use Rattle.sve_lex.specs.Classes.{run, filled_run, constant, word_kind, word_class, escaped_class, named, string, closes, operator, slash, paren, digits, based, quote, after_quote, unbased, begins, piece_of};
 
 use crate::Class;
 use crate::bytes::{
-    begins_number, decimal_len, goes_on, identifier_len, is_digit, is_first_of_identifier, is_sign,
-    is_unbased_digit, is_white_space, line_len, lower, number_len, printable_len, shuts,
-    white_space_len,
+    begins_number, decimal_len, goes_on, is_digit, is_sign, is_unbased_digit, line_len, lower,
+    number_len, printable_len, shuts,
 };
 use crate::front::front;
+use sve_bytes::{begins_identifier, identifier_rest_len, is_white_space, white_space_len};
 use sve_token::{Kind, keyword, operators_from};
 
 /// What comes after some bytes of a text.
@@ -51,9 +51,9 @@ fn decimal(rest: &[u8]) -> Option<(Class, usize)>
 /// A system name behind its `$`.
 #[tactic(auto, using(crate::proofs::Runs::filled_yes, crate::proofs::Runs::filled_no))]
 fn system_name(rest: &[u8]) -> Option<(Class, usize)>
-    ensures { result ≡ longest rest.now (filled_run is_part_of_identifier (constant (Lexeme SystemName))) }
+    ensures { result ≡ longest rest.now (filled_run continues_identifier (constant (Lexeme SystemName))) }
 {
-    let n = identifier_len(rest);
+    let n = identifier_rest_len(rest);
     if n == 0 {
         return None;
     }
@@ -270,10 +270,10 @@ fn word_kind(text: &[u8]) -> Kind
 /// A word behind its first byte.
 fn word(text: &[u8]) -> Option<(Class, usize)>
     requires { 0 < length text.now }
-    ensures { result ≡ longest (drop 1 text.now) (run is_part_of_identifier (word_class (slice_index text.now 0))) }
+    ensures { result ≡ longest (drop 1 text.now) (run continues_identifier (word_class (slice_index text.now 0))) }
 {
     let more = past(text, 1);
-    let n = identifier_len(more);
+    let n = identifier_rest_len(more);
     let kind = word_kind(&text[..n + 1]);
     Some((named(kind, n + 1), n))
 }
@@ -288,7 +288,7 @@ fn begun(text: &[u8]) -> Option<(Class, usize)>
     let rest = past(text, 1);
     if is_white_space(b) {
         white_space(rest)
-    } else if is_first_of_identifier(b) {
+    } else if begins_identifier(b) {
         word(text)
     } else if is_digit(b) {
         decimal(rest)
