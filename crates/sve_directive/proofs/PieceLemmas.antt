@@ -5,8 +5,8 @@ use Rattle.std.proofs.lemmas.List.{append-nil, drop-drop, length-take-le, length
 use Rattle.std.proofs.lemmas.List.Concat.{flat_map-cons}
 use Rattle.std.proofs.lemmas.List.Sums.{take_while-cons, sum_by-cons}
 use Rattle.std.specs.List.{take_while, sum_by, flat_map}
-use Rattle.sve_directive.specs.Bytes.{begins_with}
-use Rattle.sve_directive.specs.Pieces.{piece_length, pieces_in, pieces, front_length, is_plain, plain_length, is_gap, gap_length, is_at_backtick, unless_one_line_comment, uncommented}
+use Rattle.sve_directive.specs.Bytes.{begins_with, line_length}
+use Rattle.sve_directive.specs.Pieces.{piece_length, pieces_in, pieces, front_length, is_plain, plain_length, is_gap, gap_length, is_at_backtick, ends_line, before_line_end, rest_of_line, unless_one_line_comment, uncommented}
 
 pub some_piece : (b : ℕ) (bs : List ℕ) → 0 < piece_length (b ∷ bs)
 some_piece b bs = grind arith
@@ -133,3 +133,41 @@ comment_step text next out more n whole e w p m s =
 
 pub comment_end : (text out : List ℕ) (n : ℕ) (whole : List ℕ) → length text ≤ n → out ++ uncommented (drop n text) ≡ whole → out ≡ whole
 comment_end text out n whole h s = sym (append-nil out) ∙ ap (λ x. out ++ x) (sym uncommented-none) ∙ ap (λ x. out ++ uncommented x) (sym (drop_all n text h)) ∙ s
+
+-- the rest of a line, one piece on
+line-next : (text : List ℕ) → 0 < length text →
+    rest_of_line text ≡ cond (ends_line (take (piece_length text) text)) (line_length (take (piece_length text) text)) (length (take (piece_length text) text) + rest_of_line (drop (piece_length text) text))
+unfolding rest_of_line
+line-next text h = ap before_line_end (pieces-next text h)
+
+line-none : rest_of_line [] ≡ 0
+unfolding rest_of_line
+line-none = ap before_line_end pieces-none
+
+-- `next` is the piece at a place, in which the line ends or not
+line-piece : (text next : List ℕ) (n : ℕ) (b : Bool) → next ≡ take (piece_length (drop n text)) (drop n text) → piece_length (drop n text) ≤ length (drop n text) → 0 < length (drop n text) → ends_line next ≡ b →
+    rest_of_line (drop n text) ≡ cond b (line_length next) (length next + rest_of_line (drop (n + length next) text))
+line-piece text next n b e w p h =
+    let k = piece_length (drop n text) in
+    let size : length next ≡ k = ap length e ∙ length-take-le k (drop n text) w in
+    line-next (drop n text) p
+    ∙ ap (λ x. cond (ends_line x) (line_length x) (length x + rest_of_line (drop k (drop n text)))) (sym e)
+    ∙ ap (λ c. cond c (line_length next) (length next + rest_of_line (drop k (drop n text)))) h
+    ∙ ap (λ t. cond b (line_length next) (length next + rest_of_line t)) (ap (λ m. drop m (drop n text)) (sym size) ∙ drop-drop (length next) n text)
+
+pub line_step : (text next : List ℕ) (n whole : ℕ) → next ≡ take (piece_length (drop n text)) (drop n text) → piece_length (drop n text) ≤ length (drop n text) → 0 < length (drop n text) → ends_line next ≡ false →
+    n + rest_of_line (drop n text) ≡ whole → n + length next + rest_of_line (drop (n + length next) text) ≡ whole
+line_step text next n whole e w p h s =
+    let step : rest_of_line (drop n text) ≡ length next + rest_of_line (drop (n + length next) text) = line-piece text next n false e w p h in
+    omega arith
+
+pub line_end : (text next : List ℕ) (n whole : ℕ) → next ≡ take (piece_length (drop n text)) (drop n text) → piece_length (drop n text) ≤ length (drop n text) → 0 < length (drop n text) → ends_line next ≡ true →
+    n + rest_of_line (drop n text) ≡ whole → n + line_length next ≡ whole
+line_end text next n whole e w p h s =
+    let step : rest_of_line (drop n text) ≡ line_length next = line-piece text next n true e w p h in
+    omega arith
+
+pub line_done : (text : List ℕ) (n whole : ℕ) → length text ≤ n → n + rest_of_line (drop n text) ≡ whole → n ≡ whole
+line_done text n whole h s =
+    let none : rest_of_line (drop n text) ≡ 0 = ap rest_of_line (drop_all n text h) ∙ line-none in
+    omega arith

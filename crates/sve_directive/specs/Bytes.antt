@@ -1,19 +1,7 @@
--- Classes of bytes (IEEE 1800-2017, 5.3 and 5.6).
-use Rattle.std.specs.Prelude.{ℕ, ◌+◌, ◌-◌, ◌==◌, ◌||◌, Bool, false, not, if◌then◌else◌, List, [], ◌∷◌, length, take, drop}
-use Rattle.std.specs.Char.{is_ascii_alphabetic, is_ascii_alphanumeric, is_ascii_whitespace}
+-- Bytes at the head and at both ends of a text (IEEE 1800-2017, 5.3 and 5.6).
+use Rattle.std.specs.Prelude.{ℕ, ◌-◌, ◌==◌, Bool, false, not, List, [], ◌∷◌, length, take, drop}
 use Rattle.std.specs.List.{prefix_len, suffix_len}
-
--- space, tab, line feed, form feed and, own, carriage return (5.3)
-abbrev pub is_white_space : ℕ → Bool
-is_white_space b = is_ascii_whitespace b
-
--- a letter or `_` (5.6)
-abbrev pub begins_identifier : ℕ → Bool
-begins_identifier b = is_ascii_alphabetic b || b == 95
-
--- a letter, a digit, `_` or `$` (5.6)
-abbrev pub is_in_identifier : ℕ → Bool
-is_in_identifier b = is_ascii_alphanumeric b || b == 95 || b == 36
+use Rattle.sve_bytes.specs.Bytes.{is_white_space, identifier_length}
 
 -- any byte but the line feed
 abbrev pub is_in_line : ℕ → Bool
@@ -27,11 +15,7 @@ begins_with b (c ∷ cs) = c == b
 abbrev pub line_length : List ℕ → ℕ
 line_length text = prefix_len is_in_line text
 
--- the length of the simple identifier at the head of a text (5.6); 0 where none stands there
-abbrev pub identifier_length : List ℕ → ℕ
-identifier_length [] = 0
-identifier_length (b ∷ bs) = if begins_identifier b then 1 + prefix_len is_in_identifier bs else 0
-
+-- the simple identifier at the head of a text (5.6)
 abbrev pub identifier : List ℕ → List ℕ
 identifier text = take (identifier_length text) text
 

@@ -1,10 +1,13 @@
 -- The text of a macro definition, its name, formals and text (IEEE 1800-2017, 22.5.1).
 use Rattle.std.specs.Prelude.{ℕ, zero, suc, ◌+◌, ◌==◌, ◌&&◌, ◌||◌, Bool, true, false, not, nat_le, if◌then◌else◌, Option, Some, None, option_map, List, [], ◌∷◌, length, take, drop, bytes_eq}
 use Rattle.std.specs.List.{list_all}
-use Rattle.sve_macro.specs.declared.definition.Macro.{Macro}
+use Rattle.sve_macro.specs.declared.definition.Definition.{Definition}
 use Rattle.sve_macro.specs.declared.part.Part.{Part}
 use Rattle.sve_macro.specs.Parts.{part_of}
-use Rattle.sve_directive.specs.Bytes.{begins_with, identifier, identifier_length, trimmed}
+use Rattle.sve_bytes.specs.Bytes.{identifier_length}
+use Rattle.sve_directive.specs.declared.directive.MacroName.{MacroName}
+use Rattle.sve_directive.specs.declared.directive.MacroName.TheVariants.{Name, TooLong}
+use Rattle.sve_directive.specs.Bytes.{begins_with, identifier, trimmed}
 use Rattle.sve_directive.specs.Pieces.{gap_length, uncommented}
 
 -- a name has 1 to 1,024 bytes (own)
@@ -25,6 +28,15 @@ argument_end text = gap_length text + identifier_length (drop (gap_length text) 
 -- the name that is the next part, and the place after it; none where there is no identifier, or where it is too long
 abbrev pub argument_of : List ℕ → Option (List ℕ × ℕ)
 argument_of text = option_map (λ name. (name, argument_end text)) (name_of (argument text))
+
+-- the name of a macro in another directive: no macro has a name above 1,024 bytes (own)
+abbrev pub macro_name_of : List ℕ → Option MacroName
+macro_name_of [] = None
+macro_name_of (b ∷ bs) = Some (if is_name (b ∷ bs) then Name (b ∷ bs) else TooLong)
+
+-- the name of a macro that is the next part, and the place after it; none where there is no identifier
+abbrev pub macro_argument_of : List ℕ → Option (MacroName × ℕ)
+macro_argument_of text = option_map (λ name. (name, argument_end text)) (macro_name_of (argument text))
 
 -- how many bytes belong to a definition after its backtick and word: up to the first line feed with no backslash directly
 -- before it. slash: a backslash stands directly before.
@@ -108,14 +120,14 @@ have_distinct_names [] = true
 have_distinct_names (f ∷ fs) = is_new f.0 fs && have_distinct_names fs
 
 -- two formals of one name are not of the form (own)
-abbrev pub with_formals : List ℕ → Option (List Formal × ℕ) → Option Macro
+abbrev pub with_formals : List ℕ → Option (List Formal × ℕ) → Option Definition
 with_formals text None = None
 with_formals text (Some list) =
     if have_distinct_names list.0 then Some (record { formals = list.0; has_list = true; text = trimmed (drop list.1 text) })
     else None
 
 -- the macro of what follows its name: formals where `(` stands directly there, and its text, without white space at both ends
-unfoldable pub macro_of : List ℕ → Option Macro
+unfoldable pub macro_of : List ℕ → Option Definition
 macro_of text =
     if begins_with 40 text then with_formals (drop 1 text) (formals_of (drop 1 text))
     else Some (record { formals = []; has_list = false; text = trimmed text })

@@ -1,8 +1,9 @@
 -- The pieces of a text as the preprocessor sees them: comments, string literals, escaped identifiers, and each other byte by itself.
-use Rattle.std.specs.Prelude.{ℕ, zero, suc, ◌+◌, ◌==◌, ◌&&◌, ◌||◌, Bool, true, false, not, if◌then◌else◌, List, [], ◌∷◌, length, take, drop}
+use Rattle.std.specs.Prelude.{ℕ, zero, suc, ◌+◌, ◌==◌, ◌&&◌, ◌||◌, Bool, true, false, not, nat_lt, if◌then◌else◌, List, [], ◌∷◌, length, take, drop}
 use Rattle.std.specs.List.{prefix_len, take_while, sum_by, flat_map}
 use Rattle.sve_macro.specs.Literals.{string_rest, escaped_rest}
-use Rattle.sve_directive.specs.Bytes.{is_white_space, is_in_line, begins_with}
+use Rattle.sve_bytes.specs.Bytes.{is_white_space}
+use Rattle.sve_directive.specs.Bytes.{is_in_line, begins_with, line_length}
 
 -- how many bytes of a block comment follow its `/*`: up to and with the next `*/` (5.4), or to the end of the text (own).
 -- star: a `*` of the comment stands before.
@@ -63,6 +64,20 @@ is_gap (b ∷ bs) = is_white_space b || (b == 47 && begins_with 42 bs)
 -- how many bytes of white space and block comments stand at the head of a text
 unfoldable pub gap_length : List ℕ → ℕ
 gap_length text = front_length is_gap text
+
+-- whether a line ends in a piece: a line feed, or an escaped identifier that a line feed ends; a string literal or a block
+-- comment in which a line feed stands is a piece of the line in which it begins (own)
+abbrev pub ends_line : List ℕ → Bool
+ends_line piece = begins_with 10 piece || (begins_with 92 piece && nat_lt (line_length piece) (length piece))
+
+-- how many bytes pieces have before the line ends
+abbrev pub before_line_end : List (List ℕ) → ℕ
+before_line_end [] = 0
+before_line_end (p ∷ ps) = if ends_line p then line_length p else length p + before_line_end ps
+
+-- how many bytes the pieces have that begin in the line at the head of a text
+unfoldable pub rest_of_line : List ℕ → ℕ
+rest_of_line text = before_line_end (pieces text)
 
 -- a piece with `//` at its head
 abbrev pub is_one_line_comment : List ℕ → Bool

@@ -1,7 +1,8 @@
 -- The names of the compiler directives (IEEE 1800-2017, clause 22).
 use Rattle.std.specs.Prelude.{ℕ, Bool, false, true, bytes_eq, codes, List, if◌then◌else◌}
 use Rattle.sve_directive.specs.declared.word.Word.{Word}
-use Rattle.sve_directive.specs.declared.word.Word.TheVariants.{Defining, Undefining, UndefiningAll, IfDefined, IfNotDefined, ElseIfDefined, Otherwise, EndOfIf, Including, NetTyping, Resetting, FileName, LineNumber, RestOfLine, Alone, Pulling, KeywordSet, NoDirective}
+use Rattle.sve_directive.specs.declared.word.Word.TheVariants.{Defining, Undefining, UndefiningAll, Testing, Otherwise, EndOfIf, Including, NetTyping, Resetting, FileName, LineNumber, RestOfLine, Alone, Pulling, KeywordSet, NoDirective}
+use Rattle.sve_directive.specs.declared.word.Test.TheVariants.{IfDefined, IfNotDefined, ElseIfDefined}
 
 -- macros (22.5)
 abbrev pub macro_word : List ℕ → Word → Word
@@ -14,9 +15,9 @@ macro_word name else_ =
 -- conditional compilation (22.6)
 abbrev pub conditional_word : List ℕ → Word → Word
 conditional_word name else_ =
-    if bytes_eq name (codes "ifdef") then IfDefined
-    else if bytes_eq name (codes "ifndef") then IfNotDefined
-    else if bytes_eq name (codes "elsif") then ElseIfDefined
+    if bytes_eq name (codes "ifdef") then Testing IfDefined
+    else if bytes_eq name (codes "ifndef") then Testing IfNotDefined
+    else if bytes_eq name (codes "elsif") then Testing ElseIfDefined
     else if bytes_eq name (codes "else") then Otherwise
     else if bytes_eq name (codes "endif") then EndOfIf
     else else_
@@ -51,9 +52,7 @@ word_of name = macro_word name (conditional_word name (file_word name (other_wor
 
 -- conditional compilation (22.6)
 abbrev pub is_conditional : Word → Bool
-is_conditional IfDefined = true
-is_conditional IfNotDefined = true
-is_conditional ElseIfDefined = true
+is_conditional (Testing test) = true
 is_conditional Otherwise = true
 is_conditional EndOfIf = true
 is_conditional w = false

@@ -1,25 +1,7 @@
 ghost use Rattle.std.specs.Prelude.{◌≡◌, ◌≤◌, length, drop};
-ghost use Rattle.std.specs.List.{prefix_len};
-ghost use Rattle.sve_directive.specs.Bytes.{is_white_space, begins_identifier, is_in_identifier, begins_with, line_length, identifier_length, identifier, trimmed};
+ghost use Rattle.sve_directive.specs.Bytes.{begins_with, line_length, identifier, trimmed};
 
-/// Whether the byte is white space.
-pub fn is_space(byte: u8) -> bool
-    ensures { result ≡ is_white_space byte }
-{
-    byte.is_ascii_whitespace()
-}
-
-fn is_first(byte: u8) -> bool
-    ensures { result ≡ begins_identifier byte }
-{
-    byte.is_ascii_alphabetic() || byte == b'_'
-}
-
-fn is_further(byte: u8) -> bool
-    ensures { result ≡ is_in_identifier byte }
-{
-    byte.is_ascii_alphanumeric() || byte == b'_' || byte == b'$'
-}
+use sve_bytes::identifier_len;
 
 /// The text from its byte n on.
 pub fn past(text: &[u8], n: usize) -> &[u8]
@@ -45,24 +27,6 @@ pub fn line_len(text: &[u8]) -> usize
     ensures within { result ≤ length text.now }
 {
     text.iter().take_while(|b| **b != b'\n').count()
-}
-
-fn further_len(text: &[u8]) -> usize
-    ensures value { result ≡ prefix_len is_in_identifier text.now }
-    ensures within { result ≤ length text.now }
-{
-    text.iter().take_while(|b| is_further(**b)).count()
-}
-
-/// How many bytes the identifier that begins here has.
-pub fn identifier_len(text: &[u8]) -> usize
-    ensures value { result ≡ identifier_length text.now }
-    ensures within { result ≤ length text.now }
-{
-    match text {
-        [first, rest @ ..] if is_first(*first) => 1 + further_len(rest),
-        _ => 0,
-    }
 }
 
 /// The identifier that begins here, or no byte.

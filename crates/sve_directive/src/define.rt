@@ -9,7 +9,7 @@ use crate::pieces::{gap_len, uncomment};
 use std::alloc::Global;
 use std::collections::BTreeSet;
 use sve_bytes::{List, Name, NoMemory};
-use sve_macro::{Macro, part_at};
+use sve_macro::{Definition, Macro, part_at};
 
 /// A formal, with its default where it has one.
 type Formal = (Name, Option<List<u8>>);
@@ -85,7 +85,7 @@ fn with_default(
     ensures value { IfOk result (λ o. o ≡ defaulted name text.now (part_of text.now at)) }
     ensures within { IfOk result (λ o. IfSome o (λ f. f.1 < length text.now)) }
 {
-    match part_at(text, at) {
+    match part_at(alloc, text, at)? {
         None => Ok(None),
         Some(part) => {
             let value = copied(alloc, between(text, part.span.from, part.span.to))?;
@@ -178,13 +178,13 @@ fn are_distinct(alloc: Global, formals: &[Formal]) -> Result<bool, NoMemory>
     Ok(true)
 }
 
-/// The macro of what follows its name.
+/// The definition that follows a macro's name.
 #[tactic(auto, unfolding(crate::specs::Define::macro_of))]
-pub fn read_macro(alloc: Global, text: &[u8]) -> Result<Option<Macro>, NoMemory>
+fn read_definition(alloc: Global, text: &[u8]) -> Result<Option<Definition>, NoMemory>
     ensures { IfOk result (λ o. o ≡ macro_of text.now) }
 {
     if !begins(text, b'(') {
-        return Ok(Some(Macro {
+        return Ok(Some(Definition {
             formals: List::of(Vec::new(alloc)),
             has_list: false,
             text: copied(alloc, trim(text))?,
@@ -197,9 +197,19 @@ pub fn read_macro(alloc: Global, text: &[u8]) -> Result<Option<Macro>, NoMemory>
     if !are_distinct(alloc, formals.items())? {
         return Ok(None);
     }
-    Ok(Some(Macro {
+    Ok(Some(Definition {
         formals,
         has_list: true,
         text: copied(alloc, trim(past(list, n)))?,
     }))
+}
+
+/// The macro of what follows its name.
+pub fn read_macro(alloc: Global, text: &[u8]) -> Result<Option<Macro>, NoMemory>
+    ensures { IfOk result (λ o. o ≡ macro_of text.now) }
+{
+    match read_definition(alloc, text)? {
+        None => Ok(None),
+        Some(definition) => Ok(Some(Macro::of(alloc, definition)?)),
+    }
 }

@@ -11,9 +11,8 @@ mod pieces;
 mod reading;
 mod word;
 
-pub use directive::Directive;
+pub use directive::{
+    Conditional, Directive, LocalDirective, MacroDirective, MacroName, Refusal, SourceText,
+};
 pub use pieces::plain_len;
 pub use reading::{begins_conditional, read_directive};
-
-#[cfg(test)]
-mod tests;

@@ -1,10 +1,10 @@
 ghost use Rattle.std.specs.Prelude.{◌≡◌, ◌<◌, ◌≤◌, length, take, drop, IsTrue, IfOk, false};
 ghost use Rattle.std.specs.List.{prefix_len};
-ghost use Rattle.sve_directive.specs.Pieces.{comment_rest, slash_rest, piece_length, plain_length, gap_length, is_plain, is_gap, is_one_line_comment, uncommented, is_at_backtick};
+ghost use Rattle.sve_directive.specs.Pieces.{comment_rest, slash_rest, piece_length, plain_length, gap_length, is_plain, is_gap, ends_line, rest_of_line, is_one_line_comment, uncommented, is_at_backtick};
 
-use crate::bytes::{begins, is_space, line_len, past};
+use crate::bytes::{begins, line_len, past};
 use std::alloc::Global;
-use sve_bytes::NoMemory;
+use sve_bytes::{NoMemory, is_white_space};
 use sve_macro::{escaped_len, string_len};
 
 /// How many bytes of a block comment follow its first two.
@@ -53,7 +53,7 @@ fn is_gap_at(text: &[u8]) -> bool
 {
     match text {
         [] => false,
-        [first, rest @ ..] => is_space(*first) || (*first == b'/' && begins(rest, b'*')),
+        [first, rest @ ..] => is_white_space(*first) || (*first == b'/' && begins(rest, b'*')),
     }
 }
 
@@ -114,6 +114,29 @@ pub fn gap_len(text: &[u8]) -> usize
         }
         n += next.len();
     }
+}
+
+/// Whether a line ends in a piece.
+fn is_end_of_line(piece: &[u8]) -> bool
+    ensures { result ≡ ends_line piece.now }
+{
+    begins(piece, b'\n') || (begins(piece, b'\\') && line_len(piece) < piece.len())
+}
+
+/// How many bytes the pieces have that begin in the line at the head of a text.
+pub fn rest_of_line_len(text: &[u8]) -> usize
+    ensures value { result ≡ rest_of_line text.now }
+    ensures within { result ≤ length text.now }
+{
+    let mut n = 0;
+    'pieces: while n < text.len() {
+        let next = piece(past(text, n));
+        if is_end_of_line(next) {
+            return n + line_len(next);
+        }
+        n += next.len();
+    }
+    n
 }
 
 /// The text without its one-line comments.

@@ -1,14 +1,18 @@
-ghost use Rattle.std.specs.Prelude.{◌≡◌, ◌+◌, ◌<◌, ◌≤◌, ℕ, length, drop, take, IfOk, IfSome, Some, None, IsTrue};
+ghost use Rattle.std.specs.Prelude.{◌≡◌, ◌+◌, ◌<◌, ◌≤◌, ℕ, [], length, drop, take, IfOk, IfSome, Some, None, IsTrue};
 ghost use Rattle.sve_directive.specs.Bytes.{begins_with};
 ghost use Rattle.sve_directive.specs.Define.{said, own_length, argument_of};
-ghost use Rattle.sve_directive.specs.Directives.{define_of, definition_of, file_length, file_in, file_at, include_of, net_type_of, nettype_of, pull_of, use_of, keywords_of, naming, named, name_at, directive_at, is_conditional_at, parts_of};
+ghost use Rattle.sve_directive.specs.Directives.{define_of, definition_of, file_length, file_in, file_at, include_of, net_type_of, nettype_of, pull_of, use_of, keywords_of, tested, name_at, directive_at, is_conditional_at, parts_of, malformed_length};
 
 use crate::bytes::{begins, identifier_at, line_len, past};
 use crate::define::{own_len, read_macro, read_said};
-use crate::directive::Directive;
-use crate::name::{argument_at, argument_stop, cut_name, name_of_bytes, read_argument};
-use crate::pieces::gap_len;
-use crate::word::{Word, find_word};
+use crate::directive::{
+    Conditional, Directive, LocalDirective, MacroDirective, MacroName, Refusal, SourceText,
+};
+use crate::name::{
+    argument_at, argument_stop, cut_name, name_of_bytes, read_argument, read_macro_name,
+};
+use crate::pieces::{gap_len, rest_of_line_len};
+use crate::word::{Test, Word, find_word};
 use std::alloc::Global;
 use sve_bytes::{List, Name, NetType, NoMemory};
 
@@ -20,7 +24,10 @@ fn defined(alloc: Global, n: usize, text: &[u8]) -> Result<Option<(Directive, us
     };
     match read_macro(alloc, past(text, end))? {
         None => Ok(None),
-        Some(definition) => Ok(Some((Directive::Define { name, definition }, n))),
+        Some(definition) => {
+            let define = MacroDirective::Define { name, definition };
+            Ok(Some((Directive::Local(LocalDirective::Macros(define)), n)))
+        }
     }
 }
 
@@ -117,7 +124,10 @@ fn default_nettype(after: &[u8]) -> Option<(Directive, usize)>
 {
     match net_type(argument_at(after)) {
         None => None,
-        Some(net_type) => Some((Directive::DefaultNettype(net_type), argument_stop(after))),
+        Some(net_type) => Some((
+            Directive::Local(LocalDirective::NetType(net_type)),
+            argument_stop(after),
+        )),
     }
 }
 
@@ -127,9 +137,15 @@ fn unconnected_drive(after: &[u8]) -> Option<(Directive, usize)>
 {
     let pull = argument_at(after);
     if pull == b"pull0".as_slice() {
-        Some((Directive::Ignored, argument_stop(after)))
+        Some((
+            Directive::Local(LocalDirective::Ignored),
+            argument_stop(after),
+        ))
     } else if pull == b"pull1".as_slice() {
-        Some((Directive::Ignored, argument_stop(after)))
+        Some((
+            Directive::Local(LocalDirective::Ignored),
+            argument_stop(after),
+        ))
     } else {
         None
     }
@@ -141,10 +157,13 @@ fn used(alloc: Global, name: &[u8]) -> Result<Option<(Directive, usize)>, NoMemo
     ensures within { IfOk result (λ o. IfSome o (λ h. h.1 ≡ 0)) }
 {
     if let Some(whole) = name_of_bytes(alloc, name)? {
-        return Ok(Some((Directive::Use(whole), 0)));
+        return Ok(Some((Directive::Local(LocalDirective::Use(whole)), 0)));
     }
     match cut_name(alloc, name)? {
-        Some(front) => Ok(Some((Directive::LongUse(front), 0))),
+        Some(front) => Ok(Some((
+            Directive::Local(LocalDirective::Refused(Refusal::LongUse(front))),
+            0,
+        ))),
         None => Ok(None),
     }
 }
@@ -159,35 +178,50 @@ fn keywords(
     ensures within { IfOk result (λ o. IfSome o (λ h. h.1 ≤ length after.now)) }
 {
     match cut_name(alloc, name)? {
-        Some(name) => Ok(Some((Directive::Keywords(name), line_len(after)))),
+        Some(name) => Ok(Some((
+            Directive::Local(LocalDirective::Refused(Refusal::Keywords(name))),
+            line_len(after),
+        ))),
         None => Ok(None),
     }
 }
 
-/// What a word makes of a name.
-fn of_name(word: Word, name: Name) -> Directive
-    ensures { result ≡ naming word name }
+/// What a directive that asks for a macro makes of its name.
+fn tested(test: Test, name: MacroName) -> Conditional
+    ensures { result ≡ tested test name }
 {
-    match word {
-        Word::Undefining => Directive::Undef(name),
-        Word::IfDefined => Directive::Ifdef(name),
-        Word::IfNotDefined => Directive::Ifndef(name),
-        _ => Directive::Elsif(name),
+    match test {
+        Test::IfDefined => Conditional::Ifdef(name),
+        Test::IfNotDefined => Conditional::Ifndef(name),
+        Test::ElseIfDefined => Conditional::Elsif(name),
     }
 }
 
-/// A directive whose only part is a name.
-fn with_name(
-    alloc: Global,
-    word: Word,
-    after: &[u8],
-) -> Result<Option<(Directive, usize)>, NoMemory>
-    ensures value { IfOk result (λ o. o ≡ named (naming word) after.now) }
+/// A directive of conditional compilation that asks for a macro.
+fn testing(alloc: Global, test: Test, after: &[u8]) -> Result<Option<(Directive, usize)>, NoMemory>
+    ensures value { IfOk result (λ o. o ≡ parts_of (Word.Testing test) [] after.now) }
     ensures within { IfOk result (λ o. IfSome o (λ h. h.1 ≤ length after.now)) }
 {
-    match read_argument(alloc, after)? {
+    match read_macro_name(alloc, after)? {
         None => Ok(None),
-        Some((name, n)) => Ok(Some((of_name(word, name), n))),
+        Some((name, n)) => Ok(Some((
+            Directive::Local(LocalDirective::Conditional(tested(test, name))),
+            n,
+        ))),
+    }
+}
+
+/// `undef`, by the name that it takes the macro of.
+fn undef(alloc: Global, after: &[u8]) -> Result<Option<(Directive, usize)>, NoMemory>
+    ensures value { IfOk result (λ o. o ≡ parts_of Word.Undefining [] after.now) }
+    ensures within { IfOk result (λ o. IfSome o (λ h. h.1 ≤ length after.now)) }
+{
+    match read_macro_name(alloc, after)? {
+        None => Ok(None),
+        Some((name, n)) => Ok(Some((
+            Directive::Local(LocalDirective::Macros(MacroDirective::Undef(name))),
+            n,
+        ))),
     }
 }
 
@@ -203,22 +237,41 @@ fn read_parts(
 {
     match word {
         Word::Defining => define(alloc, after),
-        Word::Undefining | Word::IfDefined | Word::IfNotDefined | Word::ElseIfDefined => {
-            with_name(alloc, word, after)
-        }
-        Word::UndefiningAll => Ok(Some((Directive::UndefineAll, 0))),
-        Word::Otherwise => Ok(Some((Directive::Else, 0))),
-        Word::EndOfIf => Ok(Some((Directive::Endif, 0))),
+        Word::Undefining => undef(alloc, after),
+        Word::UndefiningAll => Ok(Some((
+            Directive::Local(LocalDirective::Macros(MacroDirective::UndefineAll)),
+            0,
+        ))),
+        Word::Testing(test) => testing(alloc, test, after),
+        Word::Otherwise => Ok(Some((
+            Directive::Local(LocalDirective::Conditional(Conditional::Else)),
+            0,
+        ))),
+        Word::EndOfIf => Ok(Some((
+            Directive::Local(LocalDirective::Conditional(Conditional::Endif)),
+            0,
+        ))),
         Word::Including => include(alloc, after),
         Word::NetTyping => Ok(default_nettype(after)),
-        Word::Resetting => Ok(Some((Directive::ResetAll, 0))),
-        Word::FileName => Ok(Some((Directive::File, 0))),
-        Word::LineNumber => Ok(Some((Directive::Line, 0))),
-        Word::RestOfLine => Ok(Some((Directive::Ignored, line_len(after)))),
-        Word::Alone => Ok(Some((Directive::Ignored, 0))),
+        Word::Resetting => Ok(Some((Directive::Local(LocalDirective::NetType(NetType::Wire)), 0))),
+        Word::FileName => Ok(Some((Directive::Local(LocalDirective::Text(SourceText::File)), 0))),
+        Word::LineNumber => Ok(Some((Directive::Local(LocalDirective::Text(SourceText::Line)), 0))),
+        Word::RestOfLine => Ok(Some((Directive::Local(LocalDirective::Ignored), line_len(after)))),
+        Word::Alone => Ok(Some((Directive::Local(LocalDirective::Ignored), 0))),
         Word::Pulling => Ok(unconnected_drive(after)),
         Word::KeywordSet => keywords(alloc, name, after),
         Word::NoDirective => used(alloc, name),
+    }
+}
+
+/// How many bytes a directive of this word takes behind its name where it is not of its form.
+fn malformed_len(word: Word, after: &[u8]) -> usize
+    ensures value { result ≡ malformed_length word after.now }
+    ensures within { result ≤ length after.now }
+{
+    match word {
+        Word::Defining => own_len(after),
+        _ => rest_of_line_len(after),
     }
 }
 
@@ -232,7 +285,8 @@ fn name_after_backtick(text: &[u8]) -> &[u8]
 
 /// What the backtick at the head of a text begins, and how many bytes it has, from the backtick to
 /// the end of its last part (IEEE 1800-2017, clause 22): a directive, a use of a macro, or neither,
-/// which is malformed and takes the rest of its line.
+/// which is malformed: a definition takes all its lines then, any other the rest of its line, with
+/// the whole of a string literal or a comment that begins there.
 ///
 /// # Errors
 /// Only want of memory.
@@ -245,11 +299,12 @@ pub fn read_directive(alloc: Global, text: &[u8]) -> Result<(Directive, usize), 
 {
     let name = name_after_backtick(text);
     let after = past(text, 1 + name.len());
-    match read_parts(alloc, find_word(name), name, after)? {
+    let word = find_word(name);
+    match read_parts(alloc, word, name, after)? {
         Some((directive, n)) => Ok((directive, 1 + name.len() + n)),
         None => Ok((
-            Directive::Malformed(cut_name(alloc, name)?),
-            1 + name.len() + line_len(after),
+            Directive::Local(LocalDirective::Refused(Refusal::Malformed(cut_name(alloc, name)?))),
+            1 + name.len() + malformed_len(word, after),
         )),
     }
 }
@@ -263,11 +318,7 @@ pub fn begins_conditional(text: &[u8]) -> bool
     ensures { result ≡ is_conditional_at text.now }
 {
     match find_word(name_after_backtick(text)) {
-        Word::IfDefined
-        | Word::IfNotDefined
-        | Word::ElseIfDefined
-        | Word::Otherwise
-        | Word::EndOfIf => true,
+        Word::Testing(_) | Word::Otherwise | Word::EndOfIf => true,
         _ => false,
     }
 }

@@ -10,12 +10,8 @@ pub enum Word {
     Undefining,
     /// `undefineall`.
     UndefiningAll,
-    /// `ifdef`.
-    IfDefined,
-    /// `ifndef`.
-    IfNotDefined,
-    /// `elsif`.
-    ElseIfDefined,
+    /// A directive of conditional compilation that asks for a macro.
+    Testing(Test),
     /// `else`.
     Otherwise,
     /// `endif`.
@@ -40,6 +36,17 @@ pub enum Word {
     KeywordSet,
     /// The name of no directive.
     NoDirective,
+}
+
+/// The directives of conditional compilation that ask for a macro.
+#[derive(Clone, Copy)]
+pub enum Test {
+    /// `ifdef`.
+    IfDefined,
+    /// `ifndef`.
+    IfNotDefined,
+    /// `elsif`.
+    ElseIfDefined,
 }
 
 fn other(name: &[u8]) -> Word
@@ -90,11 +97,11 @@ fn of_condition(name: &[u8]) -> Word
     ensures { result ≡ conditional_word name.now (file_word name.now (other_word name.now Word.NoDirective)) }
 {
     if name == b"ifdef".as_slice() {
-        Word::IfDefined
+        Word::Testing(Test::IfDefined)
     } else if name == b"ifndef".as_slice() {
-        Word::IfNotDefined
+        Word::Testing(Test::IfNotDefined)
     } else if name == b"elsif".as_slice() {
-        Word::ElseIfDefined
+        Word::Testing(Test::ElseIfDefined)
     } else if name == b"else".as_slice() {
         Word::Otherwise
     } else if name == b"endif".as_slice() {

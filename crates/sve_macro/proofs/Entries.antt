@@ -5,7 +5,7 @@ use Rattle.std.specs.Cmp.Lexicographic.{slice_cmp}
 use Rattle.std.specs.Map.{lookup, remove_entry}
 use Rattle.std.specs.Ordering.{nat_cmp}
 use Rattle.std.proofs.lemmas.Map.Text.{is_eq-slice_cmp}
-use Rattle.sve_macro.specs.declared.definition.Macro.{Macro}
+use Rattle.sve_macro.specs.declared.definition.Definition.{Definition}
 use Rattle.sve_macro.specs.Macros.{Entries, Sets}
 
 -- both tests give the same at every name
@@ -21,7 +21,7 @@ remove_entry-cmp {X} name (e ∷ es) =
     ap (λ b. cond b es (e ∷ remove_entry (is_at (slice_cmp nat_cmp name)) es)) (is_eq-slice_cmp name e.0)
     ∙ ap (λ r. cond (bytes_eq name e.0) es (e ∷ r)) (remove_entry-cmp name es)
 
-pub sets_from_updates : (name : List ℕ) (m n : BTreeMap (List ℕ) Macro) (w : Option Macro) (old : Entries) → m.entries ≡ old → UpdatesBy (slice_cmp nat_cmp) (slice_cmp nat_cmp name) m n w → Sets old n.entries name w
+pub sets_from_updates : (name : List ℕ) (m n : BTreeMap (List ℕ) Definition) (w : Option Definition) (old : Entries) → m.entries ≡ old → UpdatesBy (slice_cmp nat_cmp) (slice_cmp nat_cmp name) m n w → Sets old n.entries name w
 sets_from_updates name m n w old e h =
     record {
       at = sym (lookup-cmp name n.entries) ∙ h.1;

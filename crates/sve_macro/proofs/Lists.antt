@@ -2,10 +2,9 @@
 use Rattle.std.proofs.Common.{◌≡◌, ℕ, zero, suc, ◌+◌, ◌<◌, ◌≤◌, ◌==◌, Bool, true, false, cond, List, [], ◌∷◌, ◌++◌, length, take, drop, get_or, Option, Some, None, option_map, refl, ap, sym, subst, ◌∙◌, arith, length-drop, append_assoc, get_or-drop}
 use Rattle.std.proofs.lemmas.List.{drop-drop, length-take-le}
 use Rattle.sve_bytes.specs.declared.span.Span.{Span}
-use Rattle.sve_macro.specs.declared.part.Depths.{Depths}
 use Rattle.sve_macro.specs.declared.part.Part.{Part}
 use Rattle.sve_macro.specs.Literals.{string_rest, escaped_rest}
-use Rattle.sve_macro.specs.Parts.{rest_of_piece, first_piece, pieces_of, head_byte, all_closed, depths_after, ends_part, split_part, split_list, with_piece, spans, list_size, size, trimmed, part_of, actuals_of}
+use Rattle.sve_macro.specs.Parts.{Depths, rest_of_piece, first_piece, pieces_of, head_byte, all_closed, depths_after, ends_part, split_part, split_list, with_piece, spans, list_size, size, trimmed, part_of, actuals_of}
 use Rattle.sve_macro.proofs.CutSteps.{pieces-nil}
 use Rattle.sve_macro.proofs.Reading.{map_twice, map_choice, pieces_step, head-take}
 

@@ -2,11 +2,10 @@
 use Rattle.std.proofs.Common.{◌≡◌, ℕ, suc, ◌+◌, ◌-◌, ◌<◌, ◌≤◌, ◌==◌, Bool, true, false, ◌&&◌, cond, List, [], ◌∷◌, length, take, drop, get_or, Option, Some, None, option_map, unwrap_or, refl, ap, sym, ◌∙◌, arith, length-drop, add-zero, add_assoc}
 use Rattle.std.proofs.lemmas.List.{drop_more, drop-drop, length-take-le, drop_all}
 use Rattle.std.proofs.Math.Seq.{take-length}
-use Rattle.std.specs.Char.{is_ascii_whitespace}
+use Rattle.sve_bytes.specs.Bytes.{is_white_space}
 use Rattle.sve_bytes.specs.declared.span.Span.{Span}
-use Rattle.sve_macro.specs.declared.part.Depths.{Depths}
 use Rattle.sve_macro.specs.declared.part.Part.{Part}
-use Rattle.sve_macro.specs.Parts.{rest_of_piece, first_piece, pieces_of, head_byte, all_closed, depths_after, ends_part, split_part, size, is_blank, front_blanks, from_ink, to_ink, is_nil, trimmed, grown, part_of}
+use Rattle.sve_macro.specs.Parts.{Depths, closed, rest_of_piece, first_piece, pieces_of, head_byte, all_closed, depths_after, ends_part, split_part, size, is_blank, front_blanks, from_ink, to_ink, is_nil, trimmed, grown, part_of}
 use Rattle.sve_macro.proofs.CutSteps.{pieces-nil, pieces-cons}
 
 -- the part, where a place was reached with this read and these brackets open
@@ -137,7 +136,7 @@ tail_is at text = ap (λ n. take n (drop at text)) (sym (length-drop at text)) �
 reading_step : (text : List ℕ) (at : ℕ) (span : Option Span) (d : Depths) (len : ℕ) → at < length text → len ≡ 1 + rest_of_piece (drop at text) → len ≤ length (drop at text) →
     reading at span d (pieces_of (drop at text))
     ≡ cond (ends_part d (get_or text at 0)) (Some (record { span = unwrap_or span (record { from = at; to = at }); end = at }))
-    (reading (at + len) (grown span at len (is_ascii_whitespace (get_or text at 0))) (depths_after d (get_or text at 0)) (pieces_of (drop (at + len) text)))
+    (reading (at + len) (grown span at len (is_white_space (get_or text at 0))) (depths_after d (get_or text at 0)) (pieces_of (drop (at + len) text)))
 reading_step text at span d len h e w =
     let some : 0 < length (drop at text) = omega (arith, length-drop at text) in
     let rest = pieces_of (drop (at + len) text) in
@@ -151,15 +150,18 @@ reading_step text at span d len h e w =
     let size_is : length p ≡ len = length-take-le len (drop at text) w in
     ap (λ ps. reading at span d ps) cut
     ∙ ap (λ n. cond (ends_part d (head_byte p)) (Some (record { span = unwrap_or span (record { from = at; to = at }); end = at }))
-    (reading (at + n) (grown span at n (is_ascii_whitespace (head_byte p))) (depths_after d (head_byte p)) rest)) size_is
+    (reading (at + n) (grown span at n (is_white_space (head_byte p))) (depths_after d (head_byte p)) rest)) size_is
     ∙ ap (λ v. cond (ends_part d v) (Some (record { span = unwrap_or span (record { from = at; to = at }); end = at }))
-    (reading (at + len) (grown span at len (is_ascii_whitespace v)) (depths_after d v) rest)) head
+    (reading (at + len) (grown span at len (is_white_space v)) (depths_after d v) rest)) head
 
 -- as many brackets are open as bytes were read, at most
 pub record IsIn (d : Depths) (n : ℕ) : Type 0 where
-  pub round : d.round ≤ n
   pub square : d.square ≤ n
   pub curly : d.curly ≤ n
+
+closed_within : (ps : List (ℕ × ℕ)) (d : Depths) (n m : ℕ) → IsIn d n → n < m → IsIn (closed ps d) m
+closed_within [] d n m h l = let a : d.square ≤ n = h.square in let b : d.curly ≤ n = h.curly in record { square = omega arith; curly = omega arith }
+closed_within (p ∷ ps) d n m h l = let a : d.square ≤ n = h.square in let b : d.curly ≤ n = h.curly in record { square = omega arith; curly = omega arith }
 
 either : (P : Depths → Type 0) (b : Bool) {x y : Depths} → P x → P y → P (cond b x y)
 either P true p q = p
@@ -167,17 +169,16 @@ either P false p q = q
 
 depths_within : (d : Depths) (v n m : ℕ) → IsIn d n → n < m → IsIn (depths_after d v) m
 depths_within d v n m h l =
-    let a : d.round ≤ n = h.round in
-    let b : d.square ≤ n = h.square in
-    let c : d.curly ≤ n = h.curly in
+    let a : d.square ≤ n = h.square in
+    let b : d.curly ≤ n = h.curly in
     let P = λ (x : Depths). IsIn x m in
-    either P (v == 40) (record { round = omega arith; square = omega arith; curly = omega arith })
-    (either P (v == 41) (record { round = omega arith; square = omega arith; curly = omega arith })
-    (either P (v == 91) (record { round = omega arith; square = omega arith; curly = omega arith })
-    (either P (v == 93) (record { round = omega arith; square = omega arith; curly = omega arith })
-    (either P (v == 123) (record { round = omega arith; square = omega arith; curly = omega arith })
-    (either P (v == 125) (record { round = omega arith; square = omega arith; curly = omega arith })
-    (record { round = omega arith; square = omega arith; curly = omega arith }))))))
+    either P (v == 40) (record { square = omega arith; curly = omega arith })
+    (either P (v == 41) (closed_within d.parens d n m h l)
+    (either P (v == 91) (record { square = omega arith; curly = omega arith })
+    (either P (v == 93) (record { square = omega arith; curly = omega arith })
+    (either P (v == 123) (record { square = omega arith; curly = omega arith })
+    (either P (v == 125) (record { square = omega arith; curly = omega arith })
+    (record { square = omega arith; curly = omega arith }))))))
 
 cond_true : {X : Type 0} (b : Bool) (x y : X) → b ≡ true → cond b x y ≡ x
 cond_true b x y e = ap (λ z. cond z x y) e
@@ -196,19 +197,19 @@ begins text from h =
           before_ink from all_closed (pieces_of (drop from text));
       behind = omega arith;
       within = h;
-      depths = record { round = omega arith; square = omega arith; curly = omega arith };
+      depths = record { square = omega arith; curly = omega arith };
     }
 
 pub goes_on : (text : List ℕ) (from at : ℕ) (span : Option Span) (d : Depths) (len byte : ℕ) {b : Bool} → IsUnderWay text from at span d → at < length text → byte ≡ get_or text at 0 →
     len ≡ 1 + rest_of_piece (drop at text) → len ≤ length (drop at text) → b ≡ ends_part d byte → b ≡ false →
-    IsUnderWay text from (at + len) (grown span at len (is_ascii_whitespace byte)) (depths_after d byte)
+    IsUnderWay text from (at + len) (grown span at len (is_white_space byte)) (depths_after d byte)
 goes_on text from at span d len byte {b} h l v e w q r =
     record {
       same =
-          ap (λ x. reading (at + len) (grown span at len (is_ascii_whitespace x)) (depths_after d x) (pieces_of (drop (at + len) text))) v
+          ap (λ x. reading (at + len) (grown span at len (is_white_space x)) (depths_after d x) (pieces_of (drop (at + len) text))) v
           ∙ sym (reading_step text at span d len l e w
           ∙ ap (λ x. cond x (Some (record { span = unwrap_or span (record { from = at; to = at }); end = at }))
-          (reading (at + len) (grown span at len (is_ascii_whitespace (get_or text at 0))) (depths_after d (get_or text at 0)) (pieces_of (drop (at + len) text))))
+          (reading (at + len) (grown span at len (is_white_space (get_or text at 0))) (depths_after d (get_or text at 0)) (pieces_of (drop (at + len) text))))
           (ap (λ x. ends_part d x) (sym v) ∙ sym q ∙ r))
           ∙ h.same;
       behind = omega arith;

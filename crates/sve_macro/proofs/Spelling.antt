@@ -1,9 +1,8 @@
 -- The actuals spell the text.
 use Rattle.std.proofs.Common.{◌≡◌, ℕ, zero, suc, ◌+◌, ◌≤◌, ◌==◌, Bool, true, false, ◌&&◌, ◌||◌, cond, List, [], ◌∷◌, ◌++◌, length, take, drop, Some, None, option_map, refl, ap, sym, ◌∙◌, subst, arith, length-drop, length-append, append_assoc}
 use Rattle.std.proofs.lemmas.List.{take-append-drop}
-use Rattle.sve_macro.specs.declared.part.Depths.{Depths}
 use Rattle.sve_macro.specs.Laws.{joined, spelled, Spells, ActualsSpellTheText}
-use Rattle.sve_macro.specs.Parts.{rest_of_piece, first_piece, pieces_of, head_byte, all_closed, depths_after, ends_part, split_list, with_piece, list_size, size}
+use Rattle.sve_macro.specs.Parts.{Depths, rest_of_piece, first_piece, pieces_of, head_byte, all_closed, depths_after, ends_part, split_list, with_piece, list_size, size}
 use Rattle.sve_macro.proofs.CutSteps.{pieces-nil}
 use Rattle.sve_macro.proofs.Lists.{sep_alone, eq_from, some_from}
 use Rattle.sve_macro.proofs.Reading.{pieces_step, head-take}
@@ -21,7 +20,7 @@ spelled-piece p part (next ∷ others) = append_assoc p (joined part) (44 ∷ sp
 
 ends_as : (b : Bool) (d : Depths) (v : ℕ) → (v == 41) ≡ false → (v == 44) ≡ b → ends_part d v ≡ true → v ≡ 44
 ends_as true d v e f h = eq_from v 44 f
-ends_as false d v e f h = absurd (let g : ends_part d v ≡ false = ap (λ x. (x && d.round == 0) || (v == 44 && (d.round == 0 && (d.square == 0 && d.curly == 0)))) e ∙ ap (λ x. x && (d.round == 0 && (d.square == 0 && d.curly == 0))) f in cc)
+ends_as false d v e f h = absurd (let g : ends_part d v ≡ false = ap (λ x. (x && length d.parens == 0) || (v == 44 && (length d.parens == 0 && (d.square == 0 && d.curly == 0)))) e ∙ ap (λ x. x && (length d.parens == 0 && (d.square == 0 && d.curly == 0))) f in cc)
 
 with_piece_in_front : (p : List ℕ) (text : List ℕ) (parts : List (List (List ℕ))) → IsSpelled text parts → IsSpelled (p ++ text) (with_piece p parts)
 with_piece_in_front p text parts s =

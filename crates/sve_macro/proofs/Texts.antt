@@ -1,11 +1,11 @@
 -- A macro's text is replaced lexeme by lexeme.
-use Rattle.std.proofs.Common.{◌≡◌, ℕ, suc, ◌+◌, ◌<◌, ◌≤◌, ◌==◌, Bool, true, false, List, [], ◌∷◌, ◌++◌, length, take, drop, Option, Some, unwrap_or, nat_lt, refl, ap, sym, ◌∙◌, arith, append_assoc}
+use Rattle.std.proofs.Common.{◌≡◌, ℕ, suc, ◌+◌, ◌<◌, Bool, List, [], ◌∷◌, ◌++◌, length, take, drop, Option, unwrap_or, refl, ap, sym, ◌∙◌, arith, append_assoc}
 use Rattle.std.proofs.lemmas.List.{append-nil}
 use Rattle.sve_macro.specs.declared.lexeme.Kind.{Kind}
 use Rattle.sve_macro.specs.declared.lexeme.Kind.TheVariants.{Word, Plain, Joint, Quote, EscapedQuote}
 use Rattle.sve_macro.specs.Cut.{pieces}
 use Rattle.sve_macro.specs.Lexemes.{Lexeme, first_kind, lexeme_rest, between_after, first_lexeme}
-use Rattle.sve_macro.specs.Substitution.{value_of, replaced, below}
+use Rattle.sve_macro.specs.Substitution.{value_of, replaced}
 use Rattle.sve_macro.proofs.CutSteps.{pieces-nil, pieces-cons}
 
 pub lexemes_step : (between : Bool) (text : List ℕ) → 0 < length text →
@@ -48,17 +48,3 @@ pub replaced_same : (f g : List ℕ → Option (List ℕ)) (xs : List Lexeme) �
 replaced_same f g [] h = refl
 replaced_same f g (x ∷ xs) h =
     ap (λ z. z ++ replaced f xs) (value_same f g x.kind x.text h) ∙ ap (λ z. value_of g x.kind x.text ++ z) (replaced_same f g xs h)
-
-pub some_left : (n : ℕ) {b : Bool} → b ≡ (n == 0) → b ≡ false → 0 < n
-some_left n p q = let h : (n == 0) ≡ false = sym p ∙ q in grind arith
-
-pub none_left : (n : ℕ) {b : Bool} → b ≡ (n == 0) → b ≡ true → n ≡ 0
-none_left n p q = let h : (n == 0) ≡ true = sym p ∙ q in grind arith
-
--- there is not both room and none
-pub no_room : {a b n room : ℕ} → a ≡ n → b ≡ n → room ≤ a → b < room → ⊥
-no_room p q low high = omega arith
-
--- a text for which there is room
-pub fits : (room : ℕ) (out whole : List ℕ) → out ≡ whole → length out < room → Some out ≡ below room whole
-fits room out whole e h = let t : nat_lt (length out) room ≡ true = grind arith in rw (← e, t) refl

@@ -1,6 +1,6 @@
 -- What holds of the definitions, in the words of texts, separators and brackets.
-use Rattle.std.specs.Prelude.{◌≡◌, ℕ, ◌+◌, ◌≤◌, ◌==◌, false, Option, Some, None, List, [], ◌∷◌, ◌++◌, length, drop, if◌then◌else◌}
-use Rattle.sve_macro.specs.declared.definition.Macro.{Macro}
+use Rattle.std.specs.Prelude.{◌≡◌, ℕ, ◌+◌, ◌-◌, ◌≤◌, ◌==◌, false, Option, Some, None, List, [], ◌∷◌, ◌++◌, length, drop, if◌then◌else◌}
+use Rattle.sve_macro.specs.declared.definition.Definition.{Definition}
 use Rattle.sve_macro.specs.declared.lexeme.Kind.TheVariants.{Word}
 use Rattle.sve_macro.specs.Lexemes.{Lexeme, lexemes}
 use Rattle.sve_macro.specs.Parts.{pieces_of, head_byte, all_closed, split_part, split_list, list_size}
@@ -37,11 +37,20 @@ abbrev pub IsBeforeComma : List (List ℕ) → Type 0
 IsBeforeComma [] = ⊥
 IsBeforeComma (p ∷ ps) = head_byte p ≡ 44
 
--- a part closes each `(` that it opens and no other, and a part before a comma closes each bracket that it opens
+-- the pieces outside parentheses, of which so many are open
+abbrev pub outside : ℕ → List (List ℕ) → List (List ℕ)
+outside n [] = []
+outside n (p ∷ ps) =
+    if head_byte p == 40 then outside (n + 1) ps
+    else if head_byte p == 41 then outside (n - 1) ps
+    else if n == 0 then p ∷ outside n ps
+    else outside n ps
+
+-- a part closes each `(` that it opens and no other, and a part before a comma closes each bracket that it opens outside parentheses
 pub record IsBalanced (part behind : List (List ℕ)) : Type 0 where
   pub round : count_of 40 part ≡ count_of 41 part
-  pub square : IsBeforeComma behind → count_of 91 part ≤ count_of 93 part
-  pub curly : IsBeforeComma behind → count_of 123 part ≤ count_of 125 part
+  pub square : IsBeforeComma behind → count_of 91 (outside 0 part) ≤ count_of 93 part
+  pub curly : IsBeforeComma behind → count_of 123 (outside 0 part) ≤ count_of 125 part
 
 abbrev pub BracketsAreBalanced : Type 0
 BracketsAreBalanced =
@@ -59,4 +68,4 @@ HasNoBacktick (v ∷ vs) = ((v == 96) ≡ false) × HasNoBacktick vs
 -- a text without formals and backticks is left as it is
 abbrev pub PlainTextStays : Type 0
 PlainTextStays =
-    (m : Macro) (actuals : List (List ℕ)) → HasNoBacktick m.text → HasNoFormal (actual_of m actuals) (lexemes m.text) → substituted m actuals ≡ m.text
+    (m : Definition) (actuals : List (List ℕ)) → HasNoBacktick m.text → HasNoFormal (actual_of m actuals) (lexemes m.text) → substituted m actuals ≡ m.text

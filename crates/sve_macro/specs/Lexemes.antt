@@ -1,7 +1,7 @@
 -- The text of a macro as substitution reads it (IEEE 1800-2017, 22.5.1).
 use Rattle.std.specs.Prelude.{ℕ, ◌+◌, ◌==◌, Bool, false, not, List, [], ◌∷◌, take, nat_eq, if◌then◌else◌}
 use Rattle.std.specs.List.{prefix_len, starts_with}
-use Rattle.sve_bytes.specs.PathText.{is_part_of_identifier}
+use Rattle.sve_bytes.specs.Bytes.{continues_identifier}
 use Rattle.sve_macro.specs.declared.lexeme.Kind.{Kind}
 use Rattle.sve_macro.specs.declared.lexeme.Kind.TheVariants.{Word, Plain, Joint, Quote, EscapedQuote}
 use Rattle.sve_macro.specs.Cut.{First, pieces}
@@ -31,14 +31,14 @@ sign_rest EscapedQuote = 3
 -- letters, digits, `_` and `$` that stand together are a word, a backtick may begin a sign, and all else is plain
 abbrev pub first_kind : List ℕ → Kind
 first_kind [] = Plain
-first_kind (v ∷ vs) = if is_part_of_identifier v then Word else if v == 96 then sign_kind vs else Plain
+first_kind (v ∷ vs) = if continues_identifier v then Word else if v == 96 then sign_kind vs else Plain
 
 -- how many bytes a lexeme has after its first one: a word is as long as it can be;
 -- between two signs `" no string literal and no escaped identifier begins
 abbrev pub lexeme_rest : Bool → List ℕ → ℕ
 lexeme_rest between [] = 0
 lexeme_rest between (v ∷ vs) =
-    if is_part_of_identifier v then prefix_len is_part_of_identifier vs
+    if continues_identifier v then prefix_len continues_identifier vs
     else if v == 96 then sign_rest (sign_kind vs)
     else if between then 0
     else rest_of_piece (v ∷ vs)

@@ -4,5 +4,7 @@ pub mod Laws
 pub mod Lexemes
 pub mod Literals
 pub mod Macros
+pub mod Numbers
 pub mod Parts
 pub mod Substitution
+pub mod Template

@@ -1,8 +1,8 @@
 -- The parts of a list in parentheses, as the actuals of a macro use (IEEE 1800-2017, 22.5.1).
-use Rattle.std.specs.Prelude.{ℕ, ◌+◌, ◌-◌, ◌==◌, Bool, true, false, ◌&&◌, ◌||◌, Option, Some, None, option_map, List, [], ◌∷◌, length, take, drop, if◌then◌else◌}
-use Rattle.std.specs.Char.{is_ascii_whitespace}
+use Rattle.std.specs.Prelude.{ℕ, ◌+◌, ◌-◌, ◌==◌, Bool, true, false, ◌&&◌, ◌||◌, Option, Some, None, option_map, List, [], ◌∷◌, length, take, drop, reverse, min, if◌then◌else◌}
+use Rattle.sve_bytes.specs.Bytes.{is_white_space}
 use Rattle.sve_bytes.specs.declared.span.Span.{Span}
-use Rattle.sve_macro.specs.declared.part.Depths.{Depths}
+use Rattle.sve_macro.specs.declared.part.Brackets.{Brackets}
 use Rattle.sve_macro.specs.declared.part.Part.{Part}
 use Rattle.sve_macro.specs.Cut.{First, pieces}
 use Rattle.sve_macro.specs.Literals.{string_rest, escaped_rest}
@@ -22,15 +22,29 @@ abbrev pub head_byte : List ℕ → ℕ
 head_byte [] = 0
 head_byte (v ∷ vs) = v
 
+-- how many `[` and `{` are open, and for each `(` that is open, the innermost first, how many were open before it
+pub record Depths : Type 0 where
+  pub square : ℕ
+  pub curly : ℕ
+  pub parens : List (ℕ × ℕ)
+
+abbrev pub depths_of : Brackets → Depths
+depths_of o = record { square = o.square; curly = o.curly; parens = reverse o.parens.items }
+
 -- no bracket is open
 abbrev pub all_closed : Depths
-all_closed = record { round = 0; square = 0; curly = 0 }
+all_closed = record { square = 0; curly = 0; parens = [] }
 
--- how many brackets of each kind are open after a byte; a closing one that closes nothing is a byte like others
+-- a `)` closes the nearest `(` with all that was opened inside it
+abbrev pub closed : List (ℕ × ℕ) → Depths → Depths
+closed [] d = d
+closed (p ∷ ps) d = record { square = min p.0 d.square; curly = min p.1 d.curly; parens = ps }
+
+-- how many brackets are open after a byte: they are matched by kind, and a closing one that closes nothing is a byte like others
 abbrev pub depths_after : Depths → ℕ → Depths
 depths_after d v =
-    if v == 40 then record d { round = d.round + 1 }
-    else if v == 41 then record d { round = d.round - 1 }
+    if v == 40 then record d { parens = (d.square, d.curly) ∷ d.parens }
+    else if v == 41 then closed d.parens d
     else if v == 91 then record d { square = d.square + 1 }
     else if v == 93 then record d { square = d.square - 1 }
     else if v == 123 then record d { curly = d.curly + 1 }
@@ -39,7 +53,7 @@ depths_after d v =
 
 -- a part ends before a `)` that closes no `(`, and before a `,` outside all brackets
 abbrev pub ends_part : Depths → ℕ → Bool
-ends_part d v = (v == 41 && d.round == 0) || (v == 44 && (d.round == 0 && (d.square == 0 && d.curly == 0)))
+ends_part d v = (v == 41 && length d.parens == 0) || (v == 44 && (length d.parens == 0 && (d.square == 0 && d.curly == 0)))
 
 -- the pieces of the first part, and the pieces from its separator on
 abbrev pub split_part : Depths → List (List ℕ) → Option (List (List ℕ) × List (List ℕ))
@@ -55,7 +69,7 @@ size (p ∷ ps) = length p + size ps
 
 -- white space outside string literals and escaped identifiers; the byte that ends an escaped identifier is a part of it
 abbrev pub is_blank : List ℕ → Bool
-is_blank p = is_ascii_whitespace (head_byte p)
+is_blank p = is_white_space (head_byte p)
 
 -- how many bytes of blanks stand in front
 abbrev pub front_blanks : List (List ℕ) → ℕ

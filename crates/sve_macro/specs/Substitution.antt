@@ -2,7 +2,7 @@
 use Rattle.std.specs.Prelude.{ℕ, Bool, true, false, ◌&&◌, nat_lt, is_some, unwrap_or, Option, Some, None, List, [], ◌∷◌, length, bytes_eq, slice_index_or, if◌then◌else◌}
 use Rattle.std.specs.List.{flat_map}
 use Rattle.std.specs.Map.{lookup}
-use Rattle.sve_macro.specs.declared.definition.Macro.{Macro}
+use Rattle.sve_macro.specs.declared.definition.Definition.{Definition}
 use Rattle.sve_macro.specs.declared.lexeme.Kind.{Kind}
 use Rattle.sve_macro.specs.declared.lexeme.Kind.TheVariants.{Word, Plain, Joint, Quote, EscapedQuote}
 use Rattle.sve_macro.specs.Lexemes.{Lexeme, lexemes}
@@ -31,7 +31,7 @@ is_nil (x ∷ xs) = false
 
 -- whether so many actuals may be given: none without a list, none or one that is empty where the list has no formal,
 -- and else one for each formal, of which those at the end may be missing where they have defaults
-abbrev pub accepts : Macro → List (List ℕ) → Bool
+abbrev pub accepts : Definition → List (List ℕ) → Bool
 accepts m actuals =
     if m.has_list then (if is_nil m.formals then is_empty_list actuals else accepts_each m.formals actuals)
     else is_nil actuals
@@ -52,7 +52,7 @@ assigned (f ∷ formals) [] = (f.0, given f.1 []) ∷ assigned formals []
 assigned (f ∷ formals) (a ∷ actuals) = (f.0, given f.1 a) ∷ assigned formals actuals
 
 -- the text that stands for a word, if it is a formal; of two formals of one name the first counts
-abbrev pub actual_of : Macro → List (List ℕ) → List ℕ → Option (List ℕ)
+abbrev pub actual_of : Definition → List (List ℕ) → List ℕ → Option (List ℕ)
 actual_of m actuals word = lookup (bytes_eq word) (assigned m.formals actuals)
 
 -- a word that is a formal becomes its text, `` nothing, `" a quote, `\`" a backslash and a quote, and all else stays
@@ -67,7 +67,7 @@ abbrev pub replaced : (List ℕ → Option (List ℕ)) → List Lexeme → List 
 replaced of_word xs = flat_map (λ x. value_of of_word x.kind x.text) xs
 
 -- the macro's text with its formals replaced and its signs treated
-abbrev pub substituted : Macro → List (List ℕ) → List ℕ
+abbrev pub substituted : Definition → List (List ℕ) → List ℕ
 substituted m actuals = replaced (actual_of m actuals) (lexemes m.text)
 
 -- the text where it has fewer bytes than there is room for (own)

@@ -2,7 +2,7 @@ ghost use Rattle.std.specs.Prelude.{◌≡◌, ◌≤◌, length, IfOk, IsErrOf,
 ghost use Rattle.sve_macro.specs.Parts.{actuals_of};
 
 use crate::part::part_at;
-use std::alloc::{AllocFailed, Global};
+use std::alloc::{AllocError, AllocFailed, Global};
 use sve_bytes::{List, Span};
 use thiserror::Error;
 
@@ -28,6 +28,17 @@ impl<T: Drop> From<AllocFailed<T>> for ActualFault {
     }
 }
 
+impl From<AllocError> for ActualFault {
+    ghost use Rattle.std.specs.Prelude.{◌≡◌};
+    ghost use Rattle.sve_macro.specs.declared.actual_list.ActualFault.TheVariants.{NoMemory};
+
+    ghost from_gives = { λ _ e. e ≡ NoMemory };
+
+    fn from(_error: AllocError) -> ActualFault {
+        ActualFault::NoMemory
+    }
+}
+
 /// The actuals of a list whose `(` stands before `from`, in order and without white space at their
 /// ends, and the place behind its `)`. An empty list has one empty actual (IEEE 1800-2017, 22.5.1).
 ///
@@ -41,7 +52,7 @@ pub fn actuals(alloc: Global, text: &[u8], from: usize) -> Result<(List<Span>, u
 {
     let mut found = Vec::new(alloc);
     let mut at = from;
-    while let Some(part) = part_at(text, at) {
+    'parts: while let Some(part) = part_at(alloc, text, at)? {
         found.push(part.span)?;
         at = part.end + 1;
         if text[part.end] == b')' {

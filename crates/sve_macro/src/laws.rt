@@ -9,7 +9,7 @@ pub fn actuals_spell_the_text()
 {}
 
 /// An actual closes each `(` that it opens and no other, and one before a comma closes each bracket
-/// that it opens.
+/// that it opens outside parentheses.
 pub fn brackets_are_balanced()
     ensures { BracketsAreBalanced }
 {}

@@ -1,9 +1,8 @@
 ghost use Rattle.std.specs.Prelude.{◌≡◌, ◌+◌, ◌<◌, ◌≤◌, length};
-ghost use Rattle.std.specs.List.{prefix_len};
-ghost use Rattle.sve_bytes.specs.PathText.{is_part_of_identifier};
 ghost use Rattle.sve_macro.specs.Lexemes.{sign_kind, sign_rest, first_kind, lexeme_rest, between_after};
 
 use crate::part::piece_len;
+use sve_bytes::{continues_identifier, identifier_rest_len};
 
 /// What bytes of a macro's text are.
 #[derive(Clone, Copy)]
@@ -26,23 +25,6 @@ pub(crate) struct FirstLexeme {
     pub(crate) kind: Kind,
     /// How many bytes it has, 1 or more.
     pub(crate) len: usize,
-}
-
-/// A letter, a digit, `_` or `$`.
-fn is_part_of_word(byte: u8) -> bool
-    ensures { result ≡ is_part_of_identifier byte }
-{
-    byte.is_ascii_alphanumeric() || byte == b'_' || byte == b'$'
-}
-
-/// How many letters, digits, `_` and `$` stand first.
-fn word_len(text: &[u8]) -> usize
-    ensures len { result ≡ prefix_len is_part_of_identifier text.now }
-    ensures within { result ≤ length text.now }
-{
-    text.iter()
-        .take_while(|byte| is_part_of_word(**byte))
-        .count()
 }
 
 /// The sign of which these bytes stand behind the backtick.
@@ -82,10 +64,10 @@ pub(crate) fn first_lexeme(between: bool, text: &[u8]) -> FirstLexeme
     ensures within { result.len ≤ length text.now }
 {
     let byte = text[0];
-    if is_part_of_word(byte) {
+    if continues_identifier(byte) {
         return FirstLexeme {
             kind: Kind::Word,
-            len: 1 + word_len(&text[1..]),
+            len: 1 + identifier_rest_len(&text[1..]),
         };
     }
     if byte == b'`' {

@@ -7,15 +7,14 @@ pub mod laws;
 mod lexeme;
 mod literal;
 mod part;
+mod piece_numbers;
 mod substitution;
 mod table;
+mod template;
 
 pub use actual_list::{ActualFault, actuals};
-pub use definition::Macro;
+pub use definition::{Definition, Macro};
 pub use literal::{escaped_len, string_len};
 pub use part::{Part, part_at};
-pub use substitution::{SubstFault, substitute, substitute_below, takes};
+pub use substitution::{SubstFault, substitute, substitute_below};
 pub use table::Table;
-
-#[cfg(test)]
-mod tests;

@@ -3,6 +3,8 @@ ghost use Rattle.std.specs.Char.{is_ascii_graphic};
 ghost use Rattle.std.specs.List.{prefix_len};
 ghost use Rattle.sve_macro.specs.Literals.{string_rest, blank_length, escaped_rest};
 
+use sve_bytes::is_white_space;
+
 /// How many bytes of a string literal stand behind its opening quote: up to its closing quote, or,
 /// where there is none, up to a line feed or the end (IEEE 1800-2017, 5.9).
 pub fn string_len(behind_quote: &[u8]) -> usize
@@ -54,7 +56,7 @@ fn blank_len(text: &[u8]) -> usize
     ensures within { result ≤ length text.now }
 {
     match text {
-        [byte, ..] if byte.is_ascii_whitespace() => 1,
+        [byte, ..] if is_white_space(*byte) => 1,
         _ => 0,
     }
 }

@@ -1,13 +1,11 @@
-ghost use Rattle.std.specs.Prelude.{◌≡◌, ℕ, ◌↔◌, ◌++◌, List, length, false, is_some, IfOk, OnOk, IsErrOf};
-ghost use Rattle.std.specs.List.{list_all};
-ghost use Rattle.sve_macro.specs.Index.{text_in};
-ghost use Rattle.sve_macro.specs.Lexemes.{lexemes};
-ghost use Rattle.sve_macro.specs.Substitution.{accepts_each, is_empty_list, accepts, given, actual_at, actual_of, value_of, replaced, substituted, below};
+ghost use Rattle.std.specs.Prelude.{◌≡◌, ◌↔◌, ◌++◌, ◌<◌, ◌^◌, List, false, Option, None, IfOk, OnOk, IsErrOf};
+ghost use Rattle.sve_macro.specs.Numbers.{Covers};
+ghost use Rattle.sve_macro.specs.Substitution.{accepts, given, actual_at, substituted, below};
+ghost use Rattle.sve_macro.specs.Template.{value_at, piece_value, filled};
 
 use crate::definition::Macro;
-use crate::lexeme::{Kind, first_lexeme, is_between_after};
+use crate::template::{Piece, slice_between};
 use std::alloc::{AllocError, Global};
-use std::collections::BTreeMap;
 use sve_bytes::{List, Name, NoMemory};
 use thiserror::Error;
 
@@ -33,48 +31,6 @@ impl From<AllocError> for SubstFault {
     }
 }
 
-/// The texts of the formals, by their names.
-type Index<'a> = BTreeMap<&'a [u8], &'a [u8]>;
-
-/// Whether each formal has a default.
-fn have_defaults(formals: &[(Name, Option<List<u8>>)]) -> bool
-    ensures { result ≡ list_all (λ formal. is_some formal.1) formals.now }
-{
-    formals.iter().all(|formal| formal.1.is_some())
-}
-
-/// Whether each actual has a formal, and each formal without an actual a default.
-fn fits_each(formals: &[(Name, Option<List<u8>>)], count: usize) -> bool
-    ensures { (actuals : List (List ℕ)) → count ≡ length actuals → result ≡ accepts_each formals.now actuals }
-{
-    count <= formals.len() && have_defaults(&formals[count..])
-}
-
-/// Whether there is no actual, or an empty one alone.
-fn is_empty(actuals: &[List<u8>]) -> bool
-    ensures { result ≡ is_empty_list actuals.now }
-{
-    match actuals {
-        [] => true,
-        [only] => only.items().is_empty(),
-        _ => false,
-    }
-}
-
-/// Whether the macro takes so many actuals: `substitute` refuses all others. It takes no memory.
-pub fn takes(m: &Macro, actuals: &[List<u8>]) -> bool
-    ensures { result ≡ accepts m.now actuals.now }
-{
-    let formals = m.formals.items();
-    if !m.has_list {
-        actuals.is_empty()
-    } else if formals.is_empty() {
-        is_empty(actuals)
-    } else {
-        fits_each(formals, actuals.len())
-    }
-}
-
 /// The text that stands for a formal with this default, whose actual is at this place, if at any.
 fn text_given<'a>(default: &'a Option<List<u8>>, actuals: &'a [List<u8>], place: usize) -> &'a [u8]
     ensures { result.now ≡ given default.now (actual_at actuals.now place) }
@@ -91,54 +47,58 @@ fn text_given<'a>(default: &'a Option<List<u8>>, actuals: &'a [List<u8>], place:
     }
 }
 
-/// The texts that stand for the formals. Of two formals of one name the first counts.
-fn index_of<'a>(alloc: Global, m: &'a Macro, actuals: &'a [List<u8>]) -> Result<Index<'a>, NoMemory>
-    ensures { IfOk result (λ index. (word : List ℕ) → text_in index word ≡ actual_of m.now actuals.now word) }
+/// The text that stands for the formal at this place.
+fn text_at<'a>(
+    formals: &'a [(Name, Option<List<u8>>)],
+    actuals: &'a [List<u8>],
+    place: usize,
+) -> &'a [u8]
+    ensures { result.now ≡ value_at formals.now actuals.now place }
 {
-    let formals = m.formals.items();
-    let mut index = BTreeMap::new(alloc);
-    let mut left = formals.len();
-    while left > 0 {
-        left -= 1;
-        let (name, default) = &formals[left];
-        index.insert(name.bytes(), text_given(default, actuals, left))?;
+    if place < formals.len() {
+        return text_given(&formals[place].1, actuals, place);
     }
-    Ok(index)
+    b""
 }
 
-/// Adds what the lexeme stands for.
-fn push_value(out: &mut Vec<u8>, index: &Index<'_>, kind: Kind, text: &[u8]) -> Result<(), NoMemory>
-    ensures { OnOk result (out.new.items ≡ out.old.items ++ value_of (text_in index.now) kind text.now) }
-{
-    match kind {
-        Kind::Word => match index.get(text) {
-            Some(value) => out.extend_from_slice(*value),
-            None => out.extend_from_slice(text),
-        },
-        Kind::Plain => out.extend_from_slice(text),
-        Kind::Joint => Ok(()),
-        Kind::Quote => out.extend_from_slice(b"\""),
-        Kind::EscapedQuote => out.extend_from_slice(b"\\\""),
-    }
-}
-
-/// What the text stands for, given the texts of the formals, where that has fewer bytes than there is room for.
-fn replaced_text(
-    alloc: Global,
-    index: &Index<'_>,
+/// Adds what a piece gives.
+fn push_piece(
+    out: &mut Vec<u8>,
     text: &[u8],
+    formals: &[(Name, Option<List<u8>>)],
+    actuals: &[List<u8>],
+    piece: Piece,
+) -> Result<(), NoMemory>
+    ensures { OnOk result (out.new.items ≡ out.old.items ++ piece_value text.now (value_at formals.now actuals.now) piece) }
+{
+    match piece {
+        Piece::Run(span) => out.extend_from_slice(slice_between(text, span.from, span.to)),
+        Piece::Actual(place) => out.extend_from_slice(text_at(formals, actuals, place)),
+        Piece::Quote => out.extend_from_slice(b"\""),
+        Piece::EscapedQuote => out.extend_from_slice(b"\\\""),
+    }
+}
+
+/// What the pieces give, where that has fewer bytes than there is room for. All pieces that give
+/// something are among those of these numbers.
+pub(crate) fn fill(
+    alloc: Global,
+    text: &[u8],
+    formals: &[(Name, Option<List<u8>>)],
+    actuals: &[List<u8>],
+    pieces: &[Piece],
+    numbers: &[usize],
     room: usize,
 ) -> Result<Option<List<u8>>, NoMemory>
-    ensures { IfOk result (λ found. found ≡ below room (replaced (text_in index.now) (lexemes text.now))) }
+    requires { Covers (piece_value text.now (value_at formals.now actuals.now)) pieces.now numbers.now }
+    ensures text { IfOk result (λ found. found ≡ below room (filled text.now (value_at formals.now actuals.now) pieces.now)) }
+    ensures none { IfOk result (λ found. found ≡ None → room < 2 ^ 63) }
 {
     let mut out = Vec::new(alloc);
-    let mut between = false;
-    let mut rest = text;
-    'lexemes: while !rest.is_empty() && out.len() < room {
-        let first = first_lexeme(between, rest);
-        push_value(&mut out, index, first.kind, &rest[..first.len])?;
-        between = is_between_after(between, first.kind);
-        rest = &rest[first.len..];
+    let mut at = 0;
+    'numbers: while at < numbers.len() && out.len() < room {
+        push_piece(&mut out, text, formals, actuals, pieces[numbers[at]])?;
+        at += 1;
     }
     if out.len() < room {
         return Ok(Some(List::of(out)));
@@ -159,14 +119,18 @@ pub fn substitute(alloc: Global, m: &Macro, actuals: &[List<u8>]) -> Result<List
     ensures text { IfOk result (λ text. text ≡ substituted m.now actuals.now) }
     ensures count { IsErrOf result SubstFault.Count ↔ (accepts m.now actuals.now ≡ false) }
 {
-    match substitute_below(alloc, m, actuals, usize::MAX)? {
+    if !m.takes(actuals) {
+        return Err(SubstFault::Count);
+    }
+    match m.fill(alloc, actuals, usize::MAX)? {
         Some(text) => Ok(text),
-        None => Err(SubstFault::NoMemory),
+        None => unreachable!(),
     }
 }
 
-/// The same text where it has fewer than `room` bytes, and `None` where it has as many or more. Of a longer text no more
-/// than `room` bytes and one actual are ever written.
+/// The same text where it has fewer than `room` bytes, and `None` where it has as many or more. Of a
+/// longer text no more is ever written than `room` bytes and one more piece of it: an actual, or
+/// bytes of the macro's own text.
 ///
 /// # Errors
 /// `Count` as for [`substitute`].
@@ -179,9 +143,8 @@ pub fn substitute_below(
     ensures text { IfOk result (λ found. found ≡ below room (substituted m.now actuals.now)) }
     ensures count { IsErrOf result SubstFault.Count ↔ (accepts m.now actuals.now ≡ false) }
 {
-    if !takes(m, actuals) {
+    if !m.takes(actuals) {
         return Err(SubstFault::Count);
     }
-    let index = index_of(alloc, m, actuals)?;
-    Ok(replaced_text(alloc, &index, m.text.items(), room)?)
+    Ok(m.fill(alloc, actuals, room)?)
 }

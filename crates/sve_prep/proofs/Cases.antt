@@ -5,20 +5,19 @@ use Rattle.sve_bytes.specs.declared.span.Span.{Span}
 use Rattle.sve_diag.specs.declared.code.Code.TheVariants.{P04, P05, P06, P07, P08, P09, P10}
 use Rattle.sve_unread.specs.Bytes.{Byte, ahead}
 use Rattle.sve_unread.specs.Head.{head_origin, head_line, head_macros, head_level}
-use Rattle.sve_macro.specs.declared.definition.Macro.{Macro}
+use Rattle.sve_macro.specs.declared.definition.Definition.{Definition}
 use Rattle.sve_macro.specs.Parts.{actuals_of}
 use Rattle.sve_macro.specs.Substitution.{accepts, substituted}
 use Rattle.sve_directive.specs.declared.directive.Directive.{Directive}
-use Rattle.sve_directive.specs.declared.directive.Directive.TheVariants.{Define, Undef, UndefineAll, Ifdef, Ifndef, Elsif, Else, Endif, Include, DefaultNettype, ResetAll, File, Line, Ignored, Keywords, Malformed, Use, LongUse}
 use Rattle.sve_directive.specs.Pieces.{plain_length}
 use Rattle.sve_directive.specs.Directives.{Head, directive_at, is_conditional_at, cut}
 use Rattle.sve_prep.specs.Told.{Told}
 use Rattle.sve_prep.specs.State.{State, refuse, replace, copy, forward, is_reading, use_origin, is_left, close}
 use Rattle.sve_prep.specs.Uses.{Goes, Ends, passes, give_up, is_inside, is_too_deep, read_result, part_in, use_with, use_listed, list_start, use_opened, use_found}
 use Rattle.sve_prep.specs.declared.condition.Condition.{Condition}
-use Rattle.sve_prep.specs.Conditionals.{is_own, may_turn, turned, turn, end}
+use Rattle.sve_prep.specs.Conditionals.{is_own, may_have_group, in_next_group, next_group, end_conditional}
 use Rattle.sve_prep.specs.Includes.{include_text, include_found, ask, is_too_far, include}
-use Rattle.sve_prep.specs.Step.{follow, step_head, step_backtick, step_text, step_rest, step}
+use Rattle.sve_prep.specs.Step.{step_head, step_backtick, step_text, step_rest, step}
 use Rattle.sve_prep.specs.View.{Fits}
 use Rattle.sve_unread.proofs.Laid.{length-ahead}
 
@@ -39,21 +38,21 @@ same_place n t c s {f = f} {f' = f'} {k = k} {k' = k'} {line = line} {line' = li
     ∙ ap (λ (x : ℕ). replace n t (record { file = f'; offset = k'; copied = c }) line' ms' x s) g
 
 -- a use with its actuals
-pub with_count : (name : List ℕ) (m : Macro) (actuals : List (List ℕ)) (n : ℕ) (s : State) {b : Bool} → b ≡ accepts m actuals → b ≡ false → use_with name m actuals n s ≡ Goes (refuse P04 (Some name) n s)
+pub with_count : (name : List ℕ) (m : Definition) (actuals : List (List ℕ)) (n : ℕ) (s : State) {b : Bool} → b ≡ accepts m actuals → b ≡ false → use_with name m actuals n s ≡ Goes (refuse P04 (Some name) n s)
 with_count name m actuals n s p q = let e : accepts m actuals ≡ false = sym p ∙ q in rw e
 
-pub with_itself : (name : List ℕ) (m : Macro) (actuals : List (List ℕ)) (n : ℕ) (s : State) {b d : Bool} → b ≡ accepts m actuals → b ≡ true → d ≡ is_inside name s → d ≡ true → use_with name m actuals n s ≡ Goes (refuse P06 (Some name) n s)
+pub with_itself : (name : List ℕ) (m : Definition) (actuals : List (List ℕ)) (n : ℕ) (s : State) {b d : Bool} → b ≡ accepts m actuals → b ≡ true → d ≡ is_inside name s → d ≡ true → use_with name m actuals n s ≡ Goes (refuse P06 (Some name) n s)
 with_itself name m actuals n s p q p2 q2 =
     let e : accepts m actuals ≡ true = sym p ∙ q in
     let f : is_inside name s ≡ true = sym p2 ∙ q2 in rw (e, f)
 
-pub with_depth : (name : List ℕ) (m : Macro) (actuals : List (List ℕ)) (n : ℕ) (s : State) {b d g : Bool} → b ≡ accepts m actuals → b ≡ true → d ≡ is_inside name s → d ≡ false → g ≡ is_too_deep s → g ≡ true → use_with name m actuals n s ≡ Goes (refuse P07 (Some name) n s)
+pub with_depth : (name : List ℕ) (m : Definition) (actuals : List (List ℕ)) (n : ℕ) (s : State) {b d g : Bool} → b ≡ accepts m actuals → b ≡ true → d ≡ is_inside name s → d ≡ false → g ≡ is_too_deep s → g ≡ true → use_with name m actuals n s ≡ Goes (refuse P07 (Some name) n s)
 with_depth name m actuals n s p q p2 q2 p3 q3 =
     let e : accepts m actuals ≡ true = sym p ∙ q in
     let f : is_inside name s ≡ false = sym p2 ∙ q2 in
     let h : is_too_deep s ≡ true = sym p3 ∙ q3 in rw (e, f, h)
 
-pub with_text : (name : List ℕ) (m : Macro) (actuals : List (List ℕ)) (n : ℕ) (s : State) (text : List ℕ) {b d g : Bool} → b ≡ accepts m actuals → b ≡ true → d ≡ is_inside name s → d ≡ false → g ≡ is_too_deep s → g ≡ false → text ≡ substituted m actuals → use_with name m actuals n s ≡ read_result name n text s
+pub with_text : (name : List ℕ) (m : Definition) (actuals : List (List ℕ)) (n : ℕ) (s : State) (text : List ℕ) {b d g : Bool} → b ≡ accepts m actuals → b ≡ true → d ≡ is_inside name s → d ≡ false → g ≡ is_too_deep s → g ≡ false → text ≡ substituted m actuals → use_with name m actuals n s ≡ read_result name n text s
 with_text name m actuals n s text p q p2 q2 p3 q3 t =
     let e : accepts m actuals ≡ true = sym p ∙ q in
     let f : is_inside name s ≡ false = sym p2 ∙ q2 in
@@ -64,22 +63,22 @@ pub not_too_deep : (s : State) {g : Bool} → g ≡ is_too_deep s → g ≡ fals
 not_too_deep s p q = let e : nat_le 64 (length (head_macros s.rest)) ≡ false = sym p ∙ q in grind arith
 
 -- a use with a list
-pub opened_open : (name : List ℕ) (m : Macro) (n from : ℕ) (text : List ℕ) (s : State) → text ≡ ahead s.rest → actuals_of text from ≡ None → use_opened name m n (Some from) s ≡ Goes (refuse P05 (Some name) (length text) s)
+pub opened_open : (name : List ℕ) (m : Definition) (n from : ℕ) (text : List ℕ) (s : State) → text ≡ ahead s.rest → actuals_of text from ≡ None → use_opened name m n (Some from) s ≡ Goes (refuse P05 (Some name) (length text) s)
 opened_open name m n from text s h e =
     ap (λ (l : Option (List Span × ℕ)). use_listed name m l s) (ap (λ (t : List ℕ). actuals_of t from) (sym h) ∙ e)
     ∙ ap (λ (t : List ℕ). Goes (refuse P05 (Some name) (length t) s)) (sym h)
 
-pub opened_list : (name : List ℕ) (m : Macro) (n from : ℕ) (text : List ℕ) (s : State) (list : List Span × ℕ) (given : List (List ℕ)) → text ≡ ahead s.rest → actuals_of text from ≡ Some list → given ≡ map (part_in text) list.0 → use_opened name m n (Some from) s ≡ use_with name m given list.1 s
+pub opened_list : (name : List ℕ) (m : Definition) (n from : ℕ) (text : List ℕ) (s : State) (list : List Span × ℕ) (given : List (List ℕ)) → text ≡ ahead s.rest → actuals_of text from ≡ Some list → given ≡ map (part_in text) list.0 → use_opened name m n (Some from) s ≡ use_with name m given list.1 s
 opened_list name m n from text s list given h e g =
     ap (λ (l : Option (List Span × ℕ)). use_listed name m l s) (ap (λ (t : List ℕ). actuals_of t from) (sym h) ∙ e)
     ∙ ap (λ (t : List ℕ). use_with name m (map (part_in t) list.0) list.1 s) (sym h)
     ∙ ap (λ (x : List (List ℕ)). use_with name m x list.1 s) (sym g)
 
 -- a use of a macro that is defined
-pub found_plain : (name : List ℕ) (n : ℕ) (m : Macro) (s : State) → m.has_list ≡ false → use_found name n (Some m) s ≡ use_with name m [] n s
+pub found_plain : (name : List ℕ) (n : ℕ) (m : Definition) (s : State) → m.has_list ≡ false → use_found name n (Some m) s ≡ use_with name m [] n s
 found_plain name n m s e = rw e
 
-pub found_list : (name : List ℕ) (n : ℕ) (m : Macro) (text : List ℕ) (s : State) (from : Option ℕ) → m.has_list ≡ true → text ≡ ahead s.rest → from ≡ list_start text n → use_found name n (Some m) s ≡ use_opened name m n from s
+pub found_list : (name : List ℕ) (n : ℕ) (m : Definition) (text : List ℕ) (s : State) (from : Option ℕ) → m.has_list ≡ true → text ≡ ahead s.rest → from ≡ list_start text n → use_found name n (Some m) s ≡ use_opened name m n from s
 found_list name n m text s from e h f =
     (rw e refl) ∙ ap (λ (o : Option ℕ). use_opened name m n o s) (ap (λ (t : List ℕ). list_start t n) (sym h) ∙ sym f)
 
@@ -104,27 +103,6 @@ include_asks told name n s p q p2 q2 h =
     let e : is_too_far s ≡ false = sym p ∙ q in
     let f : is_file_name_of name ≡ true = sym p2 ∙ q2 in
     (rw (e, f) refl) ∙ ap (λ (t : Option (Option (List ℕ))). include_found name n t (ask name s)) h
-
--- a directive that includes no file
-pub no_include : (told : Told) (d : Directive) (n : ℕ) (s : State) → ((name : List ℕ) → d ≡ Include name → ⊥) → step_head told d n s ≡ follow d n s
-no_include told (Define name m) n s h = refl
-no_include told (Undef name) n s h = refl
-no_include told UndefineAll n s h = refl
-no_include told (Ifdef name) n s h = refl
-no_include told (Ifndef name) n s h = refl
-no_include told (Elsif name) n s h = refl
-no_include told Else n s h = refl
-no_include told Endif n s h = refl
-no_include told (Include name) n s h = absurd (h name refl)
-no_include told (DefaultNettype t) n s h = refl
-no_include told ResetAll n s h = refl
-no_include told File n s h = refl
-no_include told Line n s h = refl
-no_include told Ignored n s h = refl
-no_include told (Keywords name) n s h = refl
-no_include told (Malformed name) n s h = refl
-no_include told (Use name) n s h = refl
-no_include told (LongUse name) n s h = refl
 
 -- what begins with a backtick
 not_false : (b x : Bool) → b ≡ not x → b ≡ true → x ≡ false
@@ -168,28 +146,27 @@ pub no_conditions : (cs : List Condition) (n : ℕ) → n ≡ length cs → n �
 no_conditions [] n e h = refl
 no_conditions (c ∷ cs) n e h = absurd (omega arith)
 
-pub turns : (word : List ℕ) (holds last : Bool) (c : Condition) (n : ℕ) (s : State) {b : Bool} → b ≡ may_turn c s → b ≡ true → turn word holds last (c ∷ s.conditions) n (record s { conditions = c ∷ s.conditions }) ≡ forward n (record s { conditions = turned holds last c ∷ s.conditions })
-turns word holds last c n s p q = let e : may_turn c s ≡ true = sym p ∙ q in rw e
+pub next_group_taken : (word : List ℕ) (holds last : Bool) (c : Condition) (n : ℕ) (s : State) {b : Bool} → b ≡ may_have_group c s → b ≡ true → next_group word holds last (c ∷ s.conditions) n (record s { conditions = c ∷ s.conditions }) ≡ forward n (record s { conditions = in_next_group holds last c ∷ s.conditions })
+next_group_taken word holds last c n s p q = let e : may_have_group c s ≡ true = sym p ∙ q in rw e
 
-pub turns_not : (word : List ℕ) (holds last : Bool) (c : Condition) (n : ℕ) (s : State) {b : Bool} → b ≡ may_turn c s → b ≡ false → turn word holds last (c ∷ s.conditions) n (record s { conditions = c ∷ s.conditions }) ≡ refuse P10 (Some word) n (record s { conditions = c ∷ s.conditions })
-turns_not word holds last c n s p q = let e : may_turn c s ≡ false = sym p ∙ q in rw e
+pub next_group_refused : (word : List ℕ) (holds last : Bool) (c : Condition) (n : ℕ) (s : State) {b : Bool} → b ≡ may_have_group c s → b ≡ false → next_group word holds last (c ∷ s.conditions) n (record s { conditions = c ∷ s.conditions }) ≡ refuse P10 (Some word) n (record s { conditions = c ∷ s.conditions })
+next_group_refused word holds last c n s p q = let e : may_have_group c s ≡ false = sym p ∙ q in rw e
 
-pub turns_none : (word : List ℕ) (holds last : Bool) (n : ℕ) (s : State) (old new : List Condition) → old ≡ [] → new ≡ [] → refuse P10 (Some word) n (record s { conditions = new }) ≡ turn word holds last old n (record s { conditions = old })
-turns_none word holds last n s old new e f =
+pub next_group_alone : (word : List ℕ) (holds last : Bool) (n : ℕ) (s : State) (old new : List Condition) → old ≡ [] → new ≡ [] → refuse P10 (Some word) n (record s { conditions = new }) ≡ next_group word holds last old n (record s { conditions = old })
+next_group_alone word holds last n s old new e f =
     ap (λ (k : List Condition). refuse P10 (Some word) n (record s { conditions = k })) (f ∙ sym e)
-    ∙ sym (ap (λ (k : List Condition). turn word holds last k n (record s { conditions = old })) e)
+    ∙ sym (ap (λ (k : List Condition). next_group word holds last k n (record s { conditions = old })) e)
 
-pub ends : (c : Condition) (n : ℕ) (s : State) {b : Bool} → b ≡ is_own c s → b ≡ true → end (c ∷ s.conditions) n (record s { conditions = c ∷ s.conditions }) ≡ forward n s
-ends c n s p q = let e : is_own c s ≡ true = sym p ∙ q in rw e
+pub ends_own : (c : Condition) (n : ℕ) (s : State) {b : Bool} → b ≡ is_own c s → b ≡ true → end_conditional (c ∷ s.conditions) n (record s { conditions = c ∷ s.conditions }) ≡ forward n s
+ends_own c n s p q = let e : is_own c s ≡ true = sym p ∙ q in rw e
 
-pub ends_not : (c : Condition) (n : ℕ) (s : State) {b : Bool} → b ≡ is_own c s → b ≡ false → end (c ∷ s.conditions) n (record s { conditions = c ∷ s.conditions }) ≡ refuse P10 (Some (codes "endif")) n (record s { conditions = c ∷ s.conditions })
-ends_not c n s p q = let e : is_own c s ≡ false = sym p ∙ q in rw e
+pub end_refused : (c : Condition) (n : ℕ) (s : State) {b : Bool} → b ≡ is_own c s → b ≡ false → end_conditional (c ∷ s.conditions) n (record s { conditions = c ∷ s.conditions }) ≡ refuse P10 (Some (codes "endif")) n (record s { conditions = c ∷ s.conditions })
+end_refused c n s p q = let e : is_own c s ≡ false = sym p ∙ q in rw e
 
-pub ends_none : (word : List ℕ) (n : ℕ) (s : State) (old new : List Condition) → old ≡ [] → new ≡ [] → word ≡ codes "endif" → refuse P10 (Some word) n (record s { conditions = new }) ≡ end old n (record s { conditions = old })
-ends_none word n s old new e f g =
-    ap (λ (k : List Condition). refuse P10 (Some word) n (record s { conditions = k })) (f ∙ sym e)
-    ∙ ap (λ (w : List ℕ). refuse P10 (Some w) n (record s { conditions = old })) g
-    ∙ sym (ap (λ (k : List Condition). end k n (record s { conditions = old })) e)
+pub end_alone : (n : ℕ) (s : State) (old new : List Condition) → old ≡ [] → new ≡ [] → refuse P10 (Some (codes "endif")) n (record s { conditions = new }) ≡ end_conditional old n (record s { conditions = old })
+end_alone n s old new e f =
+    ap (λ (k : List Condition). refuse P10 (Some (codes "endif")) n (record s { conditions = k })) (f ∙ sym e)
+    ∙ sym (ap (λ (k : List Condition). end_conditional k n (record s { conditions = old })) e)
 
 -- the steps themselves
 not_both : (r : Bool) → r ≡ true → r ≡ false → ⊥

@@ -3,7 +3,7 @@ use Rattle.std.proofs.Common.{◌≡◌, ℕ, zero, suc, Bool, true, false, cond
 use Rattle.sve_bytes.specs.FileName.{is_file_name_of}
 use Rattle.sve_unread.specs.Bytes.{Byte, ahead}
 use Rattle.sve_directive.specs.declared.directive.Directive.{Directive}
-use Rattle.sve_directive.specs.declared.directive.Directive.TheVariants.{Define, Undef, UndefineAll, Ifdef, Ifndef, Elsif, Else, Endif, Include, DefaultNettype, ResetAll, File, Line, Ignored, Keywords, Malformed, Use, LongUse}
+use Rattle.sve_directive.specs.declared.directive.Directive.TheVariants.{Include, Local}
 use Rattle.sve_directive.specs.Pieces.{plain_length}
 use Rattle.sve_directive.specs.Directives.{directive_at, is_conditional_at}
 use Rattle.sve_prep.specs.Told.{Told}
@@ -39,24 +39,8 @@ include_agrees told more name n s h =
     (agrees_if (is_file_name_of name) _ _ _ _ (found_agrees name n (told name) (more name) (ask name s) (h name)) refl)
 
 head_agrees : (told more : Told) (d : Directive) (n : ℕ) (s : State) → IsLarger told more → Agrees (step_head told d n s) (step_head more d n s)
-head_agrees told more (Define name m) n s h = agrees_self (follow (Define name m) n s)
-head_agrees told more (Undef name) n s h = agrees_self (follow (Undef name) n s)
-head_agrees told more UndefineAll n s h = agrees_self (follow UndefineAll n s)
-head_agrees told more (Ifdef name) n s h = agrees_self (follow (Ifdef name) n s)
-head_agrees told more (Ifndef name) n s h = agrees_self (follow (Ifndef name) n s)
-head_agrees told more (Elsif name) n s h = agrees_self (follow (Elsif name) n s)
-head_agrees told more Else n s h = agrees_self (follow Else n s)
-head_agrees told more Endif n s h = agrees_self (follow Endif n s)
 head_agrees told more (Include name) n s h = include_agrees told more name n s h
-head_agrees told more (DefaultNettype t) n s h = agrees_self (follow (DefaultNettype t) n s)
-head_agrees told more ResetAll n s h = agrees_self (follow ResetAll n s)
-head_agrees told more File n s h = agrees_self (follow File n s)
-head_agrees told more Line n s h = agrees_self (follow Line n s)
-head_agrees told more Ignored n s h = agrees_self (follow Ignored n s)
-head_agrees told more (Keywords name) n s h = agrees_self (follow (Keywords name) n s)
-head_agrees told more (Malformed name) n s h = agrees_self (follow (Malformed name) n s)
-head_agrees told more (Use name) n s h = agrees_self (follow (Use name) n s)
-head_agrees told more (LongUse name) n s h = agrees_self (follow (LongUse name) n s)
+head_agrees told more (Local d) n s h = agrees_self (follow d n s)
 
 rest_agrees : (told more : Told) (bs : List Byte) (s : State) → IsLarger told more → Agrees (step_rest told bs s) (step_rest more bs s)
 rest_agrees told more [] s h = refl

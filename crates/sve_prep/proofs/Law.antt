@@ -10,7 +10,7 @@ use Rattle.sve_origin.proofs.Marks.{length-marked}
 use Rattle.sve_unread.specs.Bytes.{Byte, laid, cell, ahead}
 use Rattle.sve_unread.specs.Head.{head_origin, head_line, head_macros, head_level}
 use Rattle.sve_unread.proofs.Laid.{length-laid, length-ahead}
-use Rattle.sve_macro.specs.declared.definition.Macro.{Macro}
+use Rattle.sve_macro.specs.declared.definition.Definition.{Definition}
 use Rattle.sve_macro.specs.Macros.{macro_of}
 use Rattle.sve_macro.specs.Parts.{actuals_of}
 use Rattle.sve_macro.specs.Substitution.{accepts, substituted}
@@ -18,18 +18,29 @@ use Rattle.sve_directive.specs.Bytes.{begins_with}
 use Rattle.sve_directive.specs.Pieces.{plain_length}
 use Rattle.sve_directive.specs.Directives.{directive_at, is_conditional_at}
 use Rattle.sve_directive.specs.declared.directive.Directive.{Directive}
-use Rattle.sve_directive.specs.declared.directive.Directive.TheVariants.{Define, Undef, UndefineAll, Ifdef, Ifndef, Elsif, Else, Endif, Include, DefaultNettype, ResetAll, File, Line, Ignored, Keywords, Malformed, Use, LongUse}
+use Rattle.sve_directive.specs.declared.directive.Directive.TheVariants.{Include, Local}
+use Rattle.sve_directive.specs.declared.directive.LocalDirective.{LocalDirective}
+use Rattle.sve_directive.specs.declared.directive.LocalDirective.TheVariants.{Conditional, Macros, NetType, Text, Ignored, Use, Refused}
+use Rattle.sve_directive.specs.declared.directive.Conditional.{Conditional as Conditionals}
+use Rattle.sve_directive.specs.declared.directive.Conditional.TheVariants.{Ifdef, Ifndef, Elsif, Else, Endif}
+use Rattle.sve_directive.specs.declared.directive.MacroDirective.{MacroDirective}
+use Rattle.sve_directive.specs.declared.directive.MacroDirective.TheVariants.{Define, Undef, UndefineAll}
+use Rattle.sve_directive.specs.declared.directive.MacroName.TheVariants.{Name, TooLong}
+use Rattle.sve_directive.specs.declared.directive.SourceText.{SourceText}
+use Rattle.sve_directive.specs.declared.directive.SourceText.TheVariants.{File, Line}
+use Rattle.sve_directive.specs.declared.directive.Refusal.{Refusal}
+use Rattle.sve_directive.specs.declared.directive.Refusal.TheVariants.{Keywords, Malformed, LongUse}
 use Rattle.sve_prep.specs.declared.condition.Condition.{Condition}
 use Rattle.sve_prep.specs.Told.{Told}
 use Rattle.sve_prep.specs.State.{State, limit, is_reading, forward, copy, written, stand_for, replace, refuse, use_origin, is_left, close_with}
-use Rattle.sve_prep.specs.Conditionals.{is_own, may_turn, turn, end}
-use Rattle.sve_prep.specs.Uses.{Next, Goes, Ends, Needs, passes, is_inside, is_too_deep, read_result, use_text, part_in, use_with, use_listed, past_blanks, list_start, use_opened, use_found, file_text, line_text}
+use Rattle.sve_prep.specs.Conditionals.{is_own, may_have_group, next_group, end_conditional, follow_conditional}
+use Rattle.sve_prep.specs.Uses.{Next, Goes, Ends, Needs, passes, is_inside, is_too_deep, read_result, use_text, part_in, use_with, use_listed, past_blanks, list_start, use_opened, use_found, file_text, line_text, source_text}
 use Rattle.sve_prep.specs.Includes.{include_found, ask, is_too_far, include}
-use Rattle.sve_prep.specs.Step.{follow, step_head, step_backtick, step_rest, step}
+use Rattle.sve_prep.specs.Step.{change_macros, refuse_directive, follow, step_head, step_backtick, step_rest, step}
 use Rattle.sve_prep.specs.Expansion.{Outcome, carry_on, run, left, go}
 use Rattle.sve_prep.specs.View.{Fits, ArePlaced}
 use Rattle.sve_prep.proofs.Placed.{placed-drop, placed-append, placed-laid, head_placed}
-use Rattle.sve_prep.proofs.Taken.{Pays, directive_takes, EndsBehind, list_ends, some_ahead}
+use Rattle.sve_prep.proofs.Taken.{Pays, pays_more, directive_takes, EndsBehind, list_ends, some_ahead}
 use Rattle.std.proofs.lemmas.Fmt.{length-decimal-le}
 
 pub record Follows (s t : State) : Type 0 where
@@ -138,14 +149,14 @@ follows_close c cs s e =
     let l = ap length e in
     record { falls = omega arith; pays = λ f. record { paid = f.paid; bounded = f.bounded; placed = f.placed } }
 
-follows_turn : (word : List ℕ) (holds last : Bool) (cs : List Condition) (n : ℕ) (s : State) → s.conditions ≡ cs → 0 < n → 0 < length s.rest → Follows s (turn word holds last cs n s)
-follows_turn word holds last [] n s e h k = follows_refuse _ _ n s h k
-follows_turn word holds last (c ∷ cs) n s e h k =
-    both (Follows s) (may_turn c s) _ _ (follows_taken n s _ h k refl refl (omega (arith, ap length e)) refl) (follows_refuse _ _ n s h k)
+follows_next_group : (word : List ℕ) (holds last : Bool) (cs : List Condition) (n : ℕ) (s : State) → s.conditions ≡ cs → 0 < n → 0 < length s.rest → Follows s (next_group word holds last cs n s)
+follows_next_group word holds last [] n s e h k = follows_refuse _ _ n s h k
+follows_next_group word holds last (c ∷ cs) n s e h k =
+    both (Follows s) (may_have_group c s) _ _ (follows_taken n s _ h k refl refl (omega (arith, ap length e)) refl) (follows_refuse _ _ n s h k)
 
-follows_end : (cs : List Condition) (n : ℕ) (s : State) → s.conditions ≡ cs → 0 < n → 0 < length s.rest → Follows s (end cs n s)
-follows_end [] n s e h k = follows_refuse _ _ n s h k
-follows_end (c ∷ cs) n s e h k =
+follows_end_conditional : (cs : List Condition) (n : ℕ) (s : State) → s.conditions ≡ cs → 0 < n → 0 < length s.rest → Follows s (end_conditional cs n s)
+follows_end_conditional [] n s e h k = follows_refuse _ _ n s h k
+follows_end_conditional (c ∷ cs) n s e h k =
     both (Follows s) (is_own c s) _ _ (follows_taken n s _ h k refl refl (omega (arith, ap length e)) refl) (follows_refuse _ _ n s h k)
 
 result_placed : (text : List ℕ) (name : List ℕ) (s : State) → Fits s → ArePlaced (laid text (use_origin (head_origin s.rest)) (head_line s.rest) (name ∷ head_macros s.rest) (head_level s.rest))
@@ -162,11 +173,11 @@ follows_text name n text s h k =
     either (IsFollowed s) (is_inside name s) _ _ (λ _. follows_refuse _ _ n s h k) (λ _.
     either (IsFollowed s) (is_too_deep s) _ _ (λ _. follows_refuse _ _ n s h k) (λ _. follows_result name n text s h k))
 
-follows_with : (name : List ℕ) (m : Macro) (actuals : List (List ℕ)) (n : ℕ) (s : State) → 0 < n → 0 < length s.rest → IsFollowed s (use_with name m actuals n s)
+follows_with : (name : List ℕ) (m : Definition) (actuals : List (List ℕ)) (n : ℕ) (s : State) → 0 < n → 0 < length s.rest → IsFollowed s (use_with name m actuals n s)
 follows_with name m actuals n s h k =
     either (IsFollowed s) (accepts m actuals) _ _ (λ _. follows_text name n (substituted m actuals) s h k) (λ _. follows_refuse _ _ n s h k)
 
-follows_listed : (name : List ℕ) (m : Macro) (list : Option (List Span × ℕ)) (from : ℕ) (s : State) → EndsBehind from list → 0 < from → 0 < length s.rest → IsFollowed s (use_listed name m list s)
+follows_listed : (name : List ℕ) (m : Definition) (list : Option (List Span × ℕ)) (from : ℕ) (s : State) → EndsBehind from list → 0 < from → 0 < length s.rest → IsFollowed s (use_listed name m list s)
 follows_listed name m None from s p h k = follows_refuse _ _ (length (ahead s.rest)) s (some_ahead s.rest k) k
 follows_listed name m (Some list) from s p h k = follows_with name m (map (part_in (ahead s.rest)) list.0) list.1 s (omega arith) k
 
@@ -179,11 +190,11 @@ starts_if : (b : Bool) (n : ℕ) → StartsBehind (cond b (Some (n + 1)) None)
 starts_if true n = omega arith
 starts_if false n = tt
 
-follows_opened : (name : List ℕ) (m : Macro) (n : ℕ) (from : Option ℕ) (s : State) → StartsBehind from → 0 < n → 0 < length s.rest → IsFollowed s (use_opened name m n from s)
+follows_opened : (name : List ℕ) (m : Definition) (n : ℕ) (from : Option ℕ) (s : State) → StartsBehind from → 0 < n → 0 < length s.rest → IsFollowed s (use_opened name m n from s)
 follows_opened name m n None s p h k = follows_refuse _ _ n s h k
 follows_opened name m n (Some from) s p h k = follows_listed name m (actuals_of (ahead s.rest) from) from s (list_ends (ahead s.rest) from) p k
 
-follows_found : (name : List ℕ) (n : ℕ) (m : Option Macro) (s : State) → 0 < n → 0 < length s.rest → IsFollowed s (use_found name n m s)
+follows_found : (name : List ℕ) (n : ℕ) (m : Option Definition) (s : State) → 0 < n → 0 < length s.rest → IsFollowed s (use_found name n m s)
 follows_found name n None s h k = follows_refuse _ _ n s h k
 follows_found name n (Some m) s h k =
     either (IsFollowed s) m.has_list _ _
@@ -232,68 +243,40 @@ file_short s f = quoted_length (head_origin s.rest).file (head_placed s.rest f.p
 line_short : (s : State) → Fits s → length (line_text s) ≤ 1026
 line_short s f = let p = (head_placed s.rest f.placed).line in let h = length-decimal-le 10 (head_line s.rest) (omega arith) (omega arith) (omega arith) in omega arith
 
-follows_follow : (d : Directive) (n : ℕ) (s : State) → Pays d n (length s.rest) → 0 < n → 0 < length s.rest → IsFollowed s (follow d n s)
-follows_follow (Define name m) n s p h k = follows_taken n s _ h k refl refl (omega arith) refl
-follows_follow (Undef name) n s p h k = follows_taken n s _ h k refl refl (omega arith) refl
-follows_follow UndefineAll n s p h k = follows_taken n s _ h k refl refl (omega arith) refl
-follows_follow (Ifdef name) n s p h k = follows_taken n s _ h k refl refl (omega arith) refl
-follows_follow (Ifndef name) n s p h k = follows_taken n s _ h k refl refl (omega arith) refl
-follows_follow (Elsif name) n s p h k = follows_turn _ _ _ s.conditions n s refl h k
-follows_follow Else n s p h k = follows_turn _ _ _ s.conditions n s refl h k
-follows_follow Endif n s p h k = follows_end s.conditions n s refl h k
-follows_follow (Include name) n s p h k = follows_forward n s h k
-follows_follow (DefaultNettype t) n s p h k = follows_taken n s _ h k refl refl (omega arith) refl
-follows_follow ResetAll n s p h k = follows_taken n s _ h k refl refl (omega arith) refl
-follows_follow File n s p h k = follows_stand_for n (file_text s) s p.0 p.1 (file_short s)
-follows_follow Line n s p h k = follows_stand_for n (line_text s) s p.0 p.1 (line_short s)
+text_short : (text : SourceText) (s : State) → Fits s → length (source_text text s) ≤ 1026
+text_short File s f = file_short s f
+text_short Line s f = line_short s f
+
+follows_conditional : (d : Conditionals) (n : ℕ) (s : State) → 0 < n → 0 < length s.rest → Follows s (follow_conditional d n s)
+follows_conditional (Ifdef name) n s h k = follows_taken n s _ h k refl refl (omega arith) refl
+follows_conditional (Ifndef name) n s h k = follows_taken n s _ h k refl refl (omega arith) refl
+follows_conditional (Elsif name) n s h k = follows_next_group _ _ _ s.conditions n s refl h k
+follows_conditional Else n s h k = follows_next_group _ _ _ s.conditions n s refl h k
+follows_conditional Endif n s h k = follows_end_conditional s.conditions n s refl h k
+
+follows_macros : (d : MacroDirective) (n : ℕ) (s : State) → 0 < n → 0 < length s.rest → Follows s (change_macros d n s)
+follows_macros (Define name m) n s h k = follows_taken n s _ h k refl refl (omega arith) refl
+follows_macros (Undef (Name name)) n s h k = follows_taken n s _ h k refl refl (omega arith) refl
+follows_macros (Undef TooLong) n s h k = follows_forward n s h k
+follows_macros UndefineAll n s h k = follows_taken n s _ h k refl refl (omega arith) refl
+
+follows_refused : (refusal : Refusal) (n : ℕ) (s : State) → 0 < n → 0 < length s.rest → Follows s (refuse_directive refusal n s)
+follows_refused (Keywords name) n s h k = follows_refuse _ _ n s h k
+follows_refused (Malformed name) n s h k = follows_refuse _ _ n s h k
+follows_refused (LongUse name) n s h k = follows_refuse _ _ n s h k
+
+follows_follow : (d : LocalDirective) (n : ℕ) (s : State) → Pays (Local d) n (length s.rest) → 0 < n → 0 < length s.rest → IsFollowed s (follow d n s)
+follows_follow (Conditional x) n s p h k = follows_conditional x n s h k
+follows_follow (Macros x) n s p h k = follows_macros x n s h k
+follows_follow (NetType t) n s p h k = follows_taken n s _ h k refl refl (omega arith) refl
+follows_follow (Text text) n s p h k = follows_stand_for n (source_text text s) s p.0 p.1 (text_short text s)
 follows_follow Ignored n s p h k = follows_forward n s h k
-follows_follow (Keywords name) n s p h k = follows_refuse _ _ n s h k
-follows_follow (Malformed name) n s p h k = follows_refuse _ _ n s h k
 follows_follow (Use name) n s p h k = follows_found name n (macro_of s.table name) s h k
-follows_follow (LongUse name) n s p h k = follows_refuse _ _ n s h k
+follows_follow (Refused x) n s p h k = follows_refused x n s h k
 
 follows_head : (told : Told) (d : Directive) (n : ℕ) (s : State) → Pays d n (length s.rest) → 0 < n → 0 < length s.rest → IsFollowed s (step_head told d n s)
-follows_head told (Define name m) n s p h k = follows_follow (Define name m) n s p h k
-follows_head told (Undef name) n s p h k = follows_follow (Undef name) n s p h k
-follows_head told UndefineAll n s p h k = follows_follow UndefineAll n s p h k
-follows_head told (Ifdef name) n s p h k = follows_follow (Ifdef name) n s p h k
-follows_head told (Ifndef name) n s p h k = follows_follow (Ifndef name) n s p h k
-follows_head told (Elsif name) n s p h k = follows_follow (Elsif name) n s p h k
-follows_head told Else n s p h k = follows_follow Else n s p h k
-follows_head told Endif n s p h k = follows_follow Endif n s p h k
 follows_head told (Include name) n s p h k = follows_include told name n s h k
-follows_head told (DefaultNettype t) n s p h k = follows_follow (DefaultNettype t) n s p h k
-follows_head told ResetAll n s p h k = follows_follow ResetAll n s p h k
-follows_head told File n s p h k = follows_follow File n s p h k
-follows_head told Line n s p h k = follows_follow Line n s p h k
-follows_head told Ignored n s p h k = follows_follow Ignored n s p h k
-follows_head told (Keywords name) n s p h k = follows_follow (Keywords name) n s p h k
-follows_head told (Malformed name) n s p h k = follows_follow (Malformed name) n s p h k
-follows_head told (Use name) n s p h k = follows_follow (Use name) n s p h k
-follows_head told (LongUse name) n s p h k = follows_follow (LongUse name) n s p h k
-
-two_more : (m k : ℕ) → 2 ≤ m → m ≤ k → 2 ≤ k
-two_more m k h l = omega arith
-
-pays_more : (d : Directive) (n m k : ℕ) → Pays d n m → m ≤ k → Pays d n k
-pays_more (Define name x) n m k p l = tt
-pays_more (Undef name) n m k p l = tt
-pays_more UndefineAll n m k p l = tt
-pays_more (Ifdef name) n m k p l = tt
-pays_more (Ifndef name) n m k p l = tt
-pays_more (Elsif name) n m k p l = tt
-pays_more Else n m k p l = tt
-pays_more Endif n m k p l = tt
-pays_more (Include name) n m k p l = tt
-pays_more (DefaultNettype t) n m k p l = tt
-pays_more ResetAll n m k p l = tt
-pays_more File n m k p l = (p.0, two_more m k p.1 l)
-pays_more Line n m k p l = (p.0, two_more m k p.1 l)
-pays_more Ignored n m k p l = tt
-pays_more (Keywords name) n m k p l = tt
-pays_more (Malformed name) n m k p l = tt
-pays_more (Use name) n m k p l = tt
-pays_more (LongUse name) n m k p l = tt
+follows_head told (Local d) n s p h k = follows_follow d n s p h k
 
 follows_backtick : (told : Told) (s : State) → 0 < length s.rest → IsFollowed s (step_backtick told (ahead s.rest) s)
 follows_backtick told s k =

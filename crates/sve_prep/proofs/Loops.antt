@@ -54,8 +54,8 @@ begins tells0 tells asked0 asked root t f halted0 halted stops0 stops a b h r d 
       same = a;
       rest = λ told p. ap (expand_found told fresh asked0 root) (p root t b) ∙ begun told fresh asked0 root t ∙ ap (go told) (sym v);
       fits = λ _. subst Fits (sym v) (fits_begin fresh asked0 root (text_or_empty t) h r);
-      calm = c;
-      went = k;
+      not_halted = c;
+      not_stopped = k;
     }
 
 after_flow : (on : Bool) (told : Told) (s : State) → carry_on (flow on s) (go told) ≡ cond on (go told s) (Done s)
@@ -78,8 +78,8 @@ goes_on on tells0 tells tells' whole s on' s' halted0 halted halted' stops0 stop
       same = same_on tells0 tells tells' p.same a;
       rest = λ told h. going on s told (flow on' s') p t h (e.by_all told (holds_on told tells0 tells p.same h)) ∙ after_flow on' told s';
       fits = still_fits on' s s' (subst (IsFollowed s) e.by_some (step_follows e.some s)) (p.fits t);
-      calm = c ∙ p.calm;
-      went = w ∙ p.went;
+      not_halted = c ∙ p.not_halted;
+      not_stopped = w ∙ p.not_stopped;
     }
 
 less_left : (on : Bool) (s t : State) → IsFollowed s (flow on t) → cond on (suc (left t)) 0 < suc (left s)

@@ -1,60 +1,68 @@
 -- One step of an expansion: what stands leftmost is copied or replaced (IEEE 1800-2017, clause 22).
-use Rattle.std.specs.Prelude.{ℕ, true, false, not, ◌||◌, nat_eq, if◌then◌else◌, List, [], ◌∷◌, Some, bytes_eq, codes}
+use Rattle.std.specs.Prelude.{ℕ, true, false, ◌||◌, nat_eq, if◌then◌else◌, List, [], ◌∷◌, Some, bytes_eq}
 use Rattle.std.specs.BTreeMap.{insert_entry}
 use Rattle.std.specs.Cmp.Lexicographic.{slice_cmp}
 use Rattle.std.specs.Map.{remove_entry}
 use Rattle.std.specs.Ordering.{nat_cmp}
-use Rattle.sve_bytes.specs.declared.net_type.NetType.TheVariants.{Wire}
 use Rattle.sve_diag.specs.declared.code.Code.TheVariants.{P01, P02, P03}
 use Rattle.sve_unread.specs.Bytes.{Byte, ahead}
-use Rattle.sve_macro.specs.declared.definition.Macro.{Macro}
+use Rattle.sve_macro.specs.declared.definition.Definition.{Definition}
 use Rattle.sve_directive.specs.declared.directive.Directive.{Directive}
-use Rattle.sve_directive.specs.declared.directive.Directive.TheVariants.{Define, Undef, UndefineAll, Ifdef, Ifndef, Elsif, Else, Endif, Include, DefaultNettype, ResetAll, File, Line, Ignored, Keywords, Malformed, Use, LongUse}
+use Rattle.sve_directive.specs.declared.directive.Directive.TheVariants.{Include, Local}
+use Rattle.sve_directive.specs.declared.directive.LocalDirective.{LocalDirective}
+use Rattle.sve_directive.specs.declared.directive.LocalDirective.TheVariants.{Conditional, Macros, NetType, Text, Ignored, Use, Refused}
+use Rattle.sve_directive.specs.declared.directive.MacroDirective.{MacroDirective}
+use Rattle.sve_directive.specs.declared.directive.MacroDirective.TheVariants.{Define, Undef, UndefineAll}
+use Rattle.sve_directive.specs.declared.directive.MacroName.{MacroName}
+use Rattle.sve_directive.specs.declared.directive.MacroName.TheVariants.{Name, TooLong}
+use Rattle.sve_directive.specs.declared.directive.Refusal.{Refusal}
+use Rattle.sve_directive.specs.declared.directive.Refusal.TheVariants.{Keywords, Malformed, LongUse}
 use Rattle.sve_directive.specs.Pieces.{plain_length}
 use Rattle.sve_directive.specs.Directives.{directive_at, is_conditional_at}
 use Rattle.sve_prep.specs.Told.{Told}
 use Rattle.sve_prep.specs.State.{State, is_reading, forward, copy, stand_for, refuse, set_net_type, is_left, close}
-use Rattle.sve_prep.specs.Conditionals.{is_defined, begin, turn, end}
-use Rattle.sve_prep.specs.Uses.{Next, Goes, Ends, use_macro, file_text, line_text}
+use Rattle.sve_prep.specs.Conditionals.{follow_conditional}
+use Rattle.sve_prep.specs.Uses.{Next, Goes, Ends, use_macro, source_text}
 use Rattle.sve_prep.specs.Includes.{include}
 
 -- `define: a later definition takes the place of an earlier one (22.5.1)
-abbrev pub define : List ℕ → Macro → ℕ → State → State
+abbrev pub define : List ℕ → Definition → ℕ → State → State
 define name m n s = forward n (record s { table = insert_entry (slice_cmp nat_cmp) s.table name m })
 
--- `undef (22.5.2)
-abbrev pub undefine : List ℕ → ℕ → State → State
-undefine name n s = forward n (record s { table = remove_entry (bytes_eq name) s.table })
+-- `undef (22.5.2); no macro has a name above 1,024 bytes (own)
+abbrev pub undefine : MacroName → ℕ → State → State
+undefine (Name name) n s = forward n (record s { table = remove_entry (bytes_eq name) s.table })
+undefine TooLong n s = forward n s
 
 -- `undefineall (22.5.3)
 abbrev pub undefine_all : ℕ → State → State
 undefine_all n s = forward n (record s { table = [] })
 
--- a directive or a use of n bytes, where it does not include a file
-abbrev pub follow : Directive → ℕ → State → Next
-follow (Define name m) n s = Goes (define name m n s)
-follow (Undef name) n s = Goes (undefine name n s)
-follow UndefineAll n s = Goes (undefine_all n s)
-follow (Ifdef name) n s = Goes (begin (is_defined name s) n s)
-follow (Ifndef name) n s = Goes (begin (not (is_defined name s)) n s)
-follow (Elsif name) n s = Goes (turn (codes "elsif") (is_defined name s) false s.conditions n s)
-follow Else n s = Goes (turn (codes "else") true true s.conditions n s)
-follow Endif n s = Goes (end s.conditions n s)
-follow (Include name) n s = Goes (forward n s)
-follow (DefaultNettype t) n s = Goes (set_net_type t n s)
-follow ResetAll n s = Goes (set_net_type Wire n s)
-follow File n s = Goes (stand_for n (file_text s) s)
-follow Line n s = Goes (stand_for n (line_text s) s)
-follow Ignored n s = Goes (forward n s)
-follow (Keywords name) n s = Goes (refuse P03 (Some name) n s)
-follow (Malformed name) n s = Goes (refuse P01 name n s)
-follow (Use name) n s = use_macro name n s
-follow (LongUse name) n s = Goes (refuse P02 (Some name) n s)
+abbrev pub change_macros : MacroDirective → ℕ → State → State
+change_macros (Define name m) n s = define name m n s
+change_macros (Undef name) n s = undefine name n s
+change_macros UndefineAll n s = undefine_all n s
 
--- a directive or a use, also one that includes a file
+-- what is reported and dropped (own)
+abbrev pub refuse_directive : Refusal → ℕ → State → State
+refuse_directive (Keywords name) n s = refuse P03 (Some name) n s
+refuse_directive (Malformed name) n s = refuse P01 name n s
+refuse_directive (LongUse name) n s = refuse P02 (Some name) n s
+
+-- a directive or a use of n bytes that needs no other file
+abbrev pub follow : LocalDirective → ℕ → State → Next
+follow (Conditional directive) n s = Goes (follow_conditional directive n s)
+follow (Macros directive) n s = Goes (change_macros directive n s)
+follow (NetType t) n s = Goes (set_net_type t n s)
+follow (Text text) n s = Goes (stand_for n (source_text text s) s)
+follow Ignored n s = Goes (forward n s)
+follow (Use name) n s = use_macro name n s
+follow (Refused refusal) n s = Goes (refuse_directive refusal n s)
+
+-- also one that includes a file
 abbrev pub step_head : Told → Directive → ℕ → State → Next
 step_head told (Include name) n s = include told name n s
-step_head told directive n s = follow directive n s
+step_head told (Local directive) n s = follow directive n s
 
 -- in a group that is skipped only conditional directives are followed (22.6); of all others the backtick is passed (own)
 abbrev pub step_backtick : Told → List ℕ → State → Next

@@ -10,5 +10,5 @@ pub record IsUnderWay (on : Bool) (tells0 tells : Tells) (whole : Told → Outco
   pub same : TellSame tells0 tells
   pub rest : (told : Told) → Holds told tells0 → whole told ≡ (if on then go told s else Done s)
   pub fits : on ≡ true → Fits s
-  pub calm : halted ≡ halted0
-  pub went : stops ≡ stops0
+  pub not_halted : halted ≡ halted0
+  pub not_stopped : stops ≡ stops0

@@ -6,11 +6,14 @@ use Rattle.sve_bytes.specs.declared.span.Span.{Span}
 use Rattle.sve_diag.specs.declared.code.Code.TheVariants.{P02, P04, P05, P06, P07, P12}
 use Rattle.sve_unread.specs.Bytes.{ahead}
 use Rattle.sve_unread.specs.Head.{head_origin, head_line, head_macros, head_level}
-use Rattle.sve_macro.specs.declared.definition.Macro.{Macro}
+use Rattle.sve_macro.specs.declared.definition.Definition.{Definition}
 use Rattle.sve_macro.specs.Macros.{macro_of}
 use Rattle.sve_macro.specs.Parts.{actuals_of}
 use Rattle.sve_macro.specs.Substitution.{accepts, substituted}
-use Rattle.sve_directive.specs.Bytes.{is_white_space, begins_with}
+use Rattle.sve_bytes.specs.Bytes.{is_white_space}
+use Rattle.sve_directive.specs.Bytes.{begins_with}
+use Rattle.sve_directive.specs.declared.directive.SourceText.{SourceText}
+use Rattle.sve_directive.specs.declared.directive.SourceText.TheVariants.{File, Line}
 use Rattle.sve_prep.specs.State.{State, limit, replace, report, refuse, use_origin}
 
 -- what a step comes to: the next state, the end, or a name of which nothing is told
@@ -53,13 +56,13 @@ abbrev pub part_in : List ℕ → Span → List ℕ
 part_in text span = take (span.to - span.from) (drop span.from text)
 
 -- a use with these actuals, which ends behind n bytes
-abbrev pub use_with : List ℕ → Macro → List (List ℕ) → ℕ → State → Next
+abbrev pub use_with : List ℕ → Definition → List (List ℕ) → ℕ → State → Next
 use_with name m actuals n s =
     if accepts m actuals then use_text name n (substituted m actuals) s
     else Goes (refuse P04 (Some name) n s)
 
 -- a list of actuals that does not end takes what is left of its text (own)
-abbrev pub use_listed : List ℕ → Macro → Option (List Span × ℕ) → State → Next
+abbrev pub use_listed : List ℕ → Definition → Option (List Span × ℕ) → State → Next
 use_listed name m None s = Goes (refuse P05 (Some name) (length (ahead s.rest)) s)
 use_listed name m (Some list) s = use_with name m (map (part_in (ahead s.rest)) list.0) list.1 s
 
@@ -72,11 +75,11 @@ abbrev pub list_start : List ℕ → ℕ → Option ℕ
 list_start text n = if begins_with 40 (drop (past_blanks text n) text) then Some (past_blanks text n + 1) else None
 
 -- a macro with a list is used with one: without it only the name is dropped (own)
-abbrev pub use_opened : List ℕ → Macro → ℕ → Option ℕ → State → Next
+abbrev pub use_opened : List ℕ → Definition → ℕ → Option ℕ → State → Next
 use_opened name m n None s = Goes (refuse P04 (Some name) n s)
 use_opened name m n (Some from) s = use_listed name m (actuals_of (ahead s.rest) from) s
 
-abbrev pub use_found : List ℕ → ℕ → Option Macro → State → Next
+abbrev pub use_found : List ℕ → ℕ → Option Definition → State → Next
 use_found name n None s = Goes (refuse P02 (Some name) n s)
 use_found name n (Some m) s =
     if m.has_list then use_opened name m n (list_start (ahead s.rest) n) s
@@ -92,3 +95,7 @@ file_text s = 34 ∷ (head_origin s.rest).file ++ 34 ∷ []
 
 abbrev pub line_text : State → List ℕ
 line_text s = decimal (head_line s.rest)
+
+abbrev pub source_text : SourceText → State → List ℕ
+source_text File s = file_text s
+source_text Line s = line_text s

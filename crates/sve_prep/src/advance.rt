@@ -28,14 +28,14 @@ fn step_head<T: Texts>(
     ensures tells { TellSame (T.tells texts.old) (T.tells texts.new) }
     ensures keeps { T.keeps texts.old texts.new }
     ensures step { IfOk result (λ on. StepsTo (T.tells texts.old) (λ told. step_head told directive count (view work.old (T.asked texts.old))) (flow on (view work.new (T.asked texts.new)))) }
-    ensures calm { OnOk result (T.halted texts.new ≡ T.halted texts.old) }
+    ensures not_halted { OnOk result (T.halted texts.new ≡ T.halted texts.old) }
     ensures halted { HaltsAt (T.tells texts.old) (T.halted texts.old) (T.halted texts.new) (T.asked texts.new) (IsErr result) (λ told. step_head told directive count (view work.old (T.asked texts.old))) }
     ensures stopped { IfErr result (HasStopped (T.stops texts.old) (T.stops texts.new)) }
-    ensures went { OnOk result (T.stops texts.new ≡ T.stops texts.old) }
+    ensures not_stopped { OnOk result (T.stops texts.new ≡ T.stops texts.old) }
 {
     match directive {
         Directive::Include(name) => include(alloc, texts, work, name.items(), count),
-        other => Ok(work.follow(alloc, other, count)?),
+        Directive::Local(directive) => Ok(work.follow(alloc, directive, count)?),
     }
 }
 
@@ -48,10 +48,10 @@ fn step_backtick<T: Texts>(alloc: Global, texts: &mut T, work: &mut Work) -> Res
     ensures tells { TellSame (T.tells texts.old) (T.tells texts.new) }
     ensures keeps { T.keeps texts.old texts.new }
     ensures step { IfOk result (λ on. StepsTo (T.tells texts.old) (λ told. step_backtick told (ahead work.old.rest) (view work.old (T.asked texts.old))) (flow on (view work.new (T.asked texts.new)))) }
-    ensures calm { OnOk result (T.halted texts.new ≡ T.halted texts.old) }
+    ensures not_halted { OnOk result (T.halted texts.new ≡ T.halted texts.old) }
     ensures halted { HaltsAt (T.tells texts.old) (T.halted texts.old) (T.halted texts.new) (T.asked texts.new) (IsErr result) (λ told. step_backtick told (ahead work.old.rest) (view work.old (T.asked texts.old))) }
     ensures stopped { IfErr result (HasStopped (T.stops texts.old) (T.stops texts.new)) }
-    ensures went { OnOk result (T.stops texts.new ≡ T.stops texts.old) }
+    ensures not_stopped { OnOk result (T.stops texts.new ≡ T.stops texts.old) }
 {
     let text = work.rest.ahead();
     if work.is_skipped(text) {
@@ -69,10 +69,10 @@ fn step_text<T: Texts>(alloc: Global, texts: &mut T, work: &mut Work) -> Result<
     ensures tells { TellSame (T.tells texts.old) (T.tells texts.new) }
     ensures keeps { T.keeps texts.old texts.new }
     ensures step { IfOk result (λ on. StepsTo (T.tells texts.old) (λ told. step_text told (ahead work.old.rest) (view work.old (T.asked texts.old))) (flow on (view work.new (T.asked texts.new)))) }
-    ensures calm { OnOk result (T.halted texts.new ≡ T.halted texts.old) }
+    ensures not_halted { OnOk result (T.halted texts.new ≡ T.halted texts.old) }
     ensures halted { HaltsAt (T.tells texts.old) (T.halted texts.old) (T.halted texts.new) (T.asked texts.new) (IsErr result) (λ told. step_text told (ahead work.old.rest) (view work.old (T.asked texts.old))) }
     ensures stopped { IfErr result (HasStopped (T.stops texts.old) (T.stops texts.new)) }
-    ensures went { OnOk result (T.stops texts.new ≡ T.stops texts.old) }
+    ensures not_stopped { OnOk result (T.stops texts.new ≡ T.stops texts.old) }
 {
     let plain = plain_len(work.rest.ahead());
     if plain > 0 {
@@ -88,10 +88,10 @@ pub fn advance<T: Texts>(alloc: Global, texts: &mut T, work: &mut Work) -> Resul
     ensures tells { TellSame (T.tells texts.old) (T.tells texts.new) }
     ensures keeps { T.keeps texts.old texts.new }
     ensures step { IfOk result (λ on. StepsTo (T.tells texts.old) (λ told. step told (view work.old (T.asked texts.old))) (flow on (view work.new (T.asked texts.new)))) }
-    ensures calm { OnOk result (T.halted texts.new ≡ T.halted texts.old) }
+    ensures not_halted { OnOk result (T.halted texts.new ≡ T.halted texts.old) }
     ensures halted { HaltsAt (T.tells texts.old) (T.halted texts.old) (T.halted texts.new) (T.asked texts.new) (IsErr result) (λ told. step told (view work.old (T.asked texts.old))) }
     ensures stopped { IfErr result (HasStopped (T.stops texts.old) (T.stops texts.new)) }
-    ensures went { OnOk result (T.stops texts.new ≡ T.stops texts.old) }
+    ensures not_stopped { OnOk result (T.stops texts.new ≡ T.stops texts.old) }
 {
     if work.is_left() {
         work.close()?;

@@ -1,38 +1,19 @@
 ghost use Rattle.std.specs.Prelude.{◌≡◌, ℕ, List, ◌<◌, ◌≤◌, ◌∷◌, ◌&&◌, ◌||◌, not, length, Option, OnOk, IfOk, reverse, codes, is_some, true, false, Some};
 ghost use Rattle.sve_unread.specs.Bytes.{ahead};
-ghost use Rattle.sve_prep.specs.Conditionals.{turned};
+ghost use Rattle.sve_diag.specs.declared.code.Code.TheVariants.{P10};
+ghost use Rattle.sve_prep.specs.Conditionals.{in_next_group};
 
 use crate::condition::Condition;
+use crate::name::name_of;
 use crate::work::Work;
-use std::alloc::{AllocError, Global};
-use sve_bytes::{Name, NoMemory};
+use std::alloc::Global;
+use sve_bytes::NoMemory;
 use sve_diag::{Code, Place};
+use sve_directive::{Conditional, MacroName};
 
-fn both(a: bool, b: bool) -> bool
-    ensures { result ≡ (a && b) }
-{
-    a && b
-}
-
-fn either(a: bool, b: bool) -> bool
-    ensures { result ≡ (a || b) }
-{
-    a || b
-}
-
-/// The name of a directive.
-fn word(alloc: Global, bytes: &'static [u8]) -> Result<Name, NoMemory>
-    ensures { IfOk result (λ name. name ≡ bytes.now) }
-{
-    match Name::of(alloc, bytes) {
-        Ok(name) => Ok(name),
-        Err(_) => Err(AllocError),
-    }
-}
-
-/// The condition whose next group goes on, which is its last one or not.
-fn turned(condition: Condition, holds: bool, last: bool) -> Condition
-    ensures { result ≡ turned holds last condition }
+/// The condition at its next group, which is its last one or not.
+fn in_next_group(condition: Condition, holds: bool, last: bool) -> Condition
+    ensures { result ≡ in_next_group holds last condition }
 {
     let Condition {
         depth,
@@ -46,28 +27,31 @@ fn turned(condition: Condition, holds: bool, last: bool) -> Condition
         depth,
         end_place,
         outer,
-        taken: either(taken, holds),
-        active: both(outer, both(!taken, holds)),
+        taken: taken || holds,
+        active: outer && !taken && holds,
         after_else: last,
     }
 }
 
 impl Work {
-    ghost use Rattle.sve_prep.specs.Conditionals.{is_defined, begun, begin, is_own, may_turn, turn, end};
-    ghost use Rattle.sve_prep.specs.State.{forward};
+    ghost use Rattle.sve_prep.specs.Conditionals.{is_defined, new_condition, open_conditional, is_own, may_have_group, next_group, end_conditional, follow_conditional};
+    ghost use Rattle.sve_prep.specs.State.{forward, refuse};
     ghost use Rattle.sve_prep.specs.View.{Becomes, view};
 
     /// Whether a macro of this name is defined.
-    fn is_defined(&self, name: &Name) -> bool
+    fn is_defined(&self, name: &MacroName) -> bool
         ensures { (asked : Option (List (List ℕ))) → result ≡ is_defined name.now (view self.now asked) }
     {
-        self.table.find(name).is_some()
+        match name {
+            MacroName::Name(name) => self.table.find(name).is_some(),
+            MacroName::TooLong => false,
+        }
     }
 
-    /// The condition that begins at the next byte.
-    fn begun(&self, holds: bool) -> Result<Condition, NoMemory>
+    /// The condition of a conditional that begins at the next byte.
+    fn new_condition(&self, holds: bool) -> Result<Condition, NoMemory>
         requires begun { 0 < length self.now.rest }
-        ensures { IfOk result (λ c. (asked : Option (List (List ℕ))) → c ≡ begun holds (view self.now asked)) }
+        ensures { IfOk result (λ c. (asked : Option (List (List ℕ))) → c ≡ new_condition holds (view self.now asked)) }
     {
         let reading = self.is_reading();
         Ok(Condition {
@@ -78,7 +62,7 @@ impl Work {
             },
             outer: reading,
             taken: holds,
-            active: both(reading, holds),
+            active: reading && holds,
             after_else: false,
         })
     }
@@ -95,33 +79,33 @@ impl Work {
     }
 
     /// Begins a conditional.
-    fn begin(&mut self, holds: bool, count: usize) -> Result<(), NoMemory>
+    fn open_conditional(&mut self, holds: bool, count: usize) -> Result<(), NoMemory>
         requires begun { 0 < length self.old.rest }
         requires within { count ≤ length (ahead self.old.rest) }
-        ensures { OnOk result (Becomes self.old self.new (begin holds count)) }
+        ensures { OnOk result (Becomes self.old self.new (open_conditional holds count)) }
     {
-        let condition = self.begun(holds)?;
+        let condition = self.new_condition(holds)?;
         self.push_condition(condition, count)
     }
 
     /// Begins a conditional that asks for a macro (IEEE 1800-2017, 22.6).
-    pub fn if_defined(&mut self, name: Name, count: usize) -> Result<(), NoMemory>
+    fn if_defined(&mut self, name: MacroName, count: usize) -> Result<(), NoMemory>
         requires begun { 0 < length self.old.rest }
         requires within { count ≤ length (ahead self.old.rest) }
-        ensures { OnOk result (Becomes self.old self.new (λ s. begin (is_defined name s) count s)) }
+        ensures { OnOk result (Becomes self.old self.new (λ s. open_conditional (is_defined name s) count s)) }
     {
         let holds = self.is_defined(&name);
-        self.begin(holds, count)
+        self.open_conditional(holds, count)
     }
 
     /// Begins a conditional that asks that there is no such macro (IEEE 1800-2017, 22.6).
-    pub fn if_not_defined(&mut self, name: Name, count: usize) -> Result<(), NoMemory>
+    fn if_not_defined(&mut self, name: MacroName, count: usize) -> Result<(), NoMemory>
         requires begun { 0 < length self.old.rest }
         requires within { count ≤ length (ahead self.old.rest) }
-        ensures { OnOk result (Becomes self.old self.new (λ s. begin (not (is_defined name s)) count s)) }
+        ensures { OnOk result (Becomes self.old self.new (λ s. open_conditional (not (is_defined name s)) count s)) }
     {
         let holds = !self.is_defined(&name);
-        self.begin(holds, count)
+        self.open_conditional(holds, count)
     }
 
     /// Whether the condition began in the text that is read.
@@ -133,71 +117,95 @@ impl Work {
     }
 
     /// Whether it may have one more group.
-    fn may_turn(&self, condition: &Condition) -> bool
+    fn may_have_group(&self, condition: &Condition) -> bool
         requires { 0 < length self.now.rest }
-        ensures { (asked : Option (List (List ℕ))) → result ≡ may_turn condition.now (view self.now asked) }
+        ensures { (asked : Option (List (List ℕ))) → result ≡ may_have_group condition.now (view self.now asked) }
     {
-        both(self.is_own(condition), !condition.after_else)
+        self.is_own(condition) && !condition.after_else
     }
 
-    fn turn_popped(
+    /// Refuses a directive that belongs to no conditional of its text, by its name.
+    fn refuse_alone(
         &mut self,
+        alloc: Global,
+        word: &'static [u8],
+        count: usize,
+    ) -> Result<(), NoMemory>
+        requires begun { 0 < length self.old.rest }
+        requires within { count ≤ length (ahead self.old.rest) }
+        requires some { 0 < length word.now }
+        requires short { length word.now ≤ 1024 }
+        ensures { OnOk result (Becomes self.old self.new (refuse P10 (Some word.now) count)) }
+    {
+        let name = name_of(alloc, word)?;
+        self.refuse(Code::P10, Some(name), count)
+    }
+
+    /// Goes on with the next group of this condition, which was the innermost one.
+    fn next_group_of(
+        &mut self,
+        alloc: Global,
         condition: Condition,
-        word: Name,
+        word: &'static [u8],
         holds: bool,
         last: bool,
         count: usize,
     ) -> Result<(), NoMemory>
         requires begun { 0 < length self.old.rest }
         requires within { count ≤ length (ahead self.old.rest) }
-        ensures { OnOk result (Becomes self.old self.new (λ s. turn word holds last (condition ∷ s.conditions) count (record s { conditions = condition ∷ s.conditions }))) }
+        requires some { 0 < length word.now }
+        requires short { length word.now ≤ 1024 }
+        ensures { OnOk result (Becomes self.old self.new (λ s. next_group word.now holds last (condition ∷ s.conditions) count (record s { conditions = condition ∷ s.conditions }))) }
     {
-        if self.may_turn(&condition) {
-            return self.push_condition(turned(condition, holds, last), count);
+        if self.may_have_group(&condition) {
+            return self.push_condition(in_next_group(condition, holds, last), count);
         }
         self.conditions.push(condition)?;
-        self.refuse(Code::P10, Some(word), count)
+        self.refuse_alone(alloc, word, count)
     }
 
-    fn turn_with(
+    /// Goes on with the next group of the innermost condition, by the directive that begins the group.
+    fn next_group(
         &mut self,
-        word: Name,
+        alloc: Global,
+        word: &'static [u8],
         holds: bool,
         last: bool,
         count: usize,
     ) -> Result<(), NoMemory>
         requires begun { 0 < length self.old.rest }
         requires within { count ≤ length (ahead self.old.rest) }
-        ensures { OnOk result (Becomes self.old self.new (λ s. turn word holds last s.conditions count s)) }
+        requires some { 0 < length word.now }
+        requires short { length word.now ≤ 1024 }
+        ensures { OnOk result (Becomes self.old self.new (λ s. next_group word.now holds last s.conditions count s)) }
     {
         match self.conditions.pop() {
-            None => self.refuse(Code::P10, Some(word), count),
-            Some(condition) => self.turn_popped(condition, word, holds, last, count),
+            None => self.refuse_alone(alloc, word, count),
+            Some(condition) => self.next_group_of(alloc, condition, word, holds, last, count),
         }
     }
 
     /// Goes on with a group that has a condition of its own (IEEE 1800-2017, 22.6).
-    pub fn else_if(&mut self, alloc: Global, name: Name, count: usize) -> Result<(), NoMemory>
+    fn else_if(&mut self, alloc: Global, name: MacroName, count: usize) -> Result<(), NoMemory>
         requires begun { 0 < length self.old.rest }
         requires within { count ≤ length (ahead self.old.rest) }
-        ensures { OnOk result (Becomes self.old self.new (λ s. turn (codes "elsif") (is_defined name s) false s.conditions count s)) }
+        ensures { OnOk result (Becomes self.old self.new (λ s. next_group (codes "elsif") (is_defined name s) false s.conditions count s)) }
     {
         let holds = self.is_defined(&name);
-        let word = word(alloc, b"elsif")?;
-        self.turn_with(word, holds, false, count)
+        self.next_group(alloc, b"elsif", holds, false, count)
     }
 
     /// Goes on with the last group (IEEE 1800-2017, 22.6).
-    pub fn otherwise(&mut self, alloc: Global, count: usize) -> Result<(), NoMemory>
+    fn otherwise(&mut self, alloc: Global, count: usize) -> Result<(), NoMemory>
         requires begun { 0 < length self.old.rest }
         requires within { count ≤ length (ahead self.old.rest) }
-        ensures { OnOk result (Becomes self.old self.new (λ s. turn (codes "else") true true s.conditions count s)) }
+        ensures { OnOk result (Becomes self.old self.new (λ s. next_group (codes "else") true true s.conditions count s)) }
     {
-        let word = word(alloc, b"else")?;
-        self.turn_with(word, true, true, count)
+        self.next_group(alloc, b"else", true, true, count)
     }
 
-    fn end_popped(
+    /// Ends this condition, which was the innermost one.
+    fn end_condition(
         &mut self,
         alloc: Global,
         condition: Condition,
@@ -205,29 +213,45 @@ impl Work {
     ) -> Result<(), NoMemory>
         requires begun { 0 < length self.old.rest }
         requires within { count ≤ length (ahead self.old.rest) }
-        ensures { OnOk result (Becomes self.old self.new (λ s. end (condition ∷ s.conditions) count (record s { conditions = condition ∷ s.conditions }))) }
+        ensures { OnOk result (Becomes self.old self.new (λ s. end_conditional (condition ∷ s.conditions) count (record s { conditions = condition ∷ s.conditions }))) }
     {
         if self.is_own(&condition) {
             self.rest.skip(count);
             return Ok(());
         }
         self.conditions.push(condition)?;
-        let word = word(alloc, b"endif")?;
-        self.refuse(Code::P10, Some(word), count)
+        self.refuse_alone(alloc, b"endif", count)
     }
 
     /// Ends a conditional (IEEE 1800-2017, 22.6).
-    pub fn end(&mut self, alloc: Global, count: usize) -> Result<(), NoMemory>
+    fn end_conditional(&mut self, alloc: Global, count: usize) -> Result<(), NoMemory>
         requires begun { 0 < length self.old.rest }
         requires within { count ≤ length (ahead self.old.rest) }
-        ensures { OnOk result (Becomes self.old self.new (λ s. end s.conditions count s)) }
+        ensures { OnOk result (Becomes self.old self.new (λ s. end_conditional s.conditions count s)) }
     {
         match self.conditions.pop() {
-            None => {
-                let word = word(alloc, b"endif")?;
-                self.refuse(Code::P10, Some(word), count)
-            }
-            Some(condition) => self.end_popped(alloc, condition, count),
+            None => self.refuse_alone(alloc, b"endif", count),
+            Some(condition) => self.end_condition(alloc, condition, count),
+        }
+    }
+
+    /// Follows a directive of conditional compilation (IEEE 1800-2017, 22.6).
+    pub fn follow_conditional(
+        &mut self,
+        alloc: Global,
+        directive: Conditional,
+        count: usize,
+    ) -> Result<(), NoMemory>
+        requires begun { 0 < length self.old.rest }
+        requires within { count ≤ length (ahead self.old.rest) }
+        ensures { OnOk result (Becomes self.old self.new (follow_conditional directive count)) }
+    {
+        match directive {
+            Conditional::Ifdef(name) => self.if_defined(name, count),
+            Conditional::Ifndef(name) => self.if_not_defined(name, count),
+            Conditional::Elsif(name) => self.else_if(alloc, name, count),
+            Conditional::Else => self.otherwise(alloc, count),
+            Conditional::Endif => self.end_conditional(alloc, count),
         }
     }
 }

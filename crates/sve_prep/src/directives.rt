@@ -7,7 +7,7 @@ use crate::work::Work;
 use std::alloc::Global;
 use sve_bytes::{Name, NetType, NoMemory};
 use sve_diag::Code;
-use sve_directive::Directive;
+use sve_directive::{LocalDirective, MacroDirective, MacroName, Refusal, SourceText};
 use sve_macro::Macro;
 
 /// A name in quotes.
@@ -22,10 +22,9 @@ fn quoted(alloc: Global, name: &Name) -> Result<Vec<u8>, NoMemory>
 }
 
 impl Work {
-    ghost use Rattle.sve_prep.specs.State.{forward, stand_for, refuse, set_net_type};
-    ghost use Rattle.sve_prep.specs.Conditionals.{is_defined, begin, turn, end};
-    ghost use Rattle.sve_prep.specs.Uses.{use_macro, file_text, line_text};
-    ghost use Rattle.sve_prep.specs.Step.{define, undefine, undefine_all, follow};
+    ghost use Rattle.sve_prep.specs.State.{stand_for, set_net_type};
+    ghost use Rattle.sve_prep.specs.Uses.{file_text, line_text, source_text};
+    ghost use Rattle.sve_prep.specs.Step.{define, undefine, undefine_all, change_macros, refuse_directive, follow};
     ghost use Rattle.sve_prep.specs.View.{Becomes, Leads, view};
 
     fn define(&mut self, name: Name, definition: Macro, count: usize) -> Result<(), NoMemory>
@@ -37,12 +36,17 @@ impl Work {
         Ok(())
     }
 
-    fn undefine(&mut self, name: Name, count: usize)
+    fn undefine(&mut self, name: MacroName, count: usize)
         requires within { count ≤ length (ahead self.old.rest) }
         ensures { Becomes self.old self.new (undefine name count) }
     {
-        self.table.undefine(&name);
-        self.rest.skip(count);
+        match name {
+            MacroName::Name(name) => {
+                self.table.undefine(&name);
+                self.rest.skip(count);
+            }
+            MacroName::TooLong => self.rest.skip(count),
+        }
     }
 
     fn undefine_all(&mut self, count: usize)
@@ -98,11 +102,60 @@ impl Work {
         self.stand_for(count, text.as_bytes())
     }
 
-    /// A directive or a use, where it does not include a file. Whether the expansion goes on.
+    /// Writes what a directive stands for (IEEE 1800-2017, 22.13).
+    fn write_source_text(
+        &mut self,
+        alloc: Global,
+        text: SourceText,
+        count: usize,
+    ) -> Result<(), NoMemory>
+        requires begun { 0 < length self.old.rest }
+        requires within { count ≤ length (ahead self.old.rest) }
+        requires room { length self.old.out + 1026 < 2 ^ 32 }
+        ensures { OnOk result (Becomes self.old self.new (λ s. stand_for count (source_text text s) s)) }
+    {
+        match text {
+            SourceText::File => self.write_file(alloc, count),
+            SourceText::Line => self.write_line(alloc, count),
+        }
+    }
+
+    /// Changes which macros are defined (IEEE 1800-2017, 22.5).
+    fn change_macros(&mut self, directive: MacroDirective, count: usize) -> Result<(), NoMemory>
+        requires within { count ≤ length (ahead self.old.rest) }
+        ensures { OnOk result (Becomes self.old self.new (change_macros directive count)) }
+    {
+        match directive {
+            MacroDirective::Define { name, definition } => self.define(name, definition, count),
+            MacroDirective::Undef(name) => {
+                self.undefine(name, count);
+                Ok(())
+            }
+            MacroDirective::UndefineAll => {
+                self.undefine_all(count);
+                Ok(())
+            }
+        }
+    }
+
+    /// Reports what is no directive of this profile, and drops it.
+    fn refuse_directive(&mut self, refusal: Refusal, count: usize) -> Result<(), NoMemory>
+        requires begun { 0 < length self.old.rest }
+        requires within { count ≤ length (ahead self.old.rest) }
+        ensures { OnOk result (Becomes self.old self.new (refuse_directive refusal count)) }
+    {
+        match refusal {
+            Refusal::Keywords(name) => self.refuse(Code::P03, Some(name), count),
+            Refusal::Malformed(name) => self.refuse(Code::P01, name, count),
+            Refusal::LongUse(name) => self.refuse(Code::P02, Some(name), count),
+        }
+    }
+
+    /// A directive or a use that needs no other file. Whether the expansion goes on.
     pub fn follow(
         &mut self,
         alloc: Global,
-        directive: Directive,
+        directive: LocalDirective,
         count: usize,
     ) -> Result<bool, NoMemory>
         requires begun { 0 < length self.old.rest }
@@ -112,75 +165,31 @@ impl Work {
         ensures { IfOk result (λ on. Leads on self.old self.new (follow directive count)) }
     {
         match directive {
-            Directive::Define { name, definition } => {
-                self.define(name, definition, count)?;
+            LocalDirective::Conditional(directive) => {
+                self.follow_conditional(alloc, directive, count)?;
                 Ok(true)
             }
-            Directive::Undef(name) => {
-                self.undefine(name, count);
+            LocalDirective::Macros(directive) => {
+                self.change_macros(directive, count)?;
                 Ok(true)
             }
-            Directive::UndefineAll => {
-                self.undefine_all(count);
-                Ok(true)
-            }
-            Directive::Ifdef(name) => {
-                self.if_defined(name, count)?;
-                Ok(true)
-            }
-            Directive::Ifndef(name) => {
-                self.if_not_defined(name, count)?;
-                Ok(true)
-            }
-            Directive::Elsif(name) => {
-                self.else_if(alloc, name, count)?;
-                Ok(true)
-            }
-            Directive::Else => {
-                self.otherwise(alloc, count)?;
-                Ok(true)
-            }
-            Directive::Endif => {
-                self.end(alloc, count)?;
-                Ok(true)
-            }
-            Directive::DefaultNettype(net_type) => {
+            LocalDirective::NetType(net_type) => {
                 self.set_net_type(net_type, count)?;
                 Ok(true)
             }
-            Directive::ResetAll => {
-                self.set_net_type(NetType::Wire, count)?;
+            LocalDirective::Text(text) => {
+                self.write_source_text(alloc, text, count)?;
                 Ok(true)
             }
-            Directive::File => {
-                self.write_file(alloc, count)?;
-                Ok(true)
-            }
-            Directive::Line => {
-                self.write_line(alloc, count)?;
-                Ok(true)
-            }
-            Directive::Include(_file) => {
+            LocalDirective::Ignored => {
                 self.rest.skip(count);
                 Ok(true)
             }
-            Directive::Ignored => {
-                self.rest.skip(count);
+            LocalDirective::Refused(refusal) => {
+                self.refuse_directive(refusal, count)?;
                 Ok(true)
             }
-            Directive::Keywords(name) => {
-                self.refuse(Code::P03, Some(name), count)?;
-                Ok(true)
-            }
-            Directive::Malformed(name) => {
-                self.refuse(Code::P01, name, count)?;
-                Ok(true)
-            }
-            Directive::LongUse(name) => {
-                self.refuse(Code::P02, Some(name), count)?;
-                Ok(true)
-            }
-            Directive::Use(name) => self.use_macro(alloc, name, count),
+            LocalDirective::Use(name) => self.use_macro(alloc, name, count),
         }
     }
 }

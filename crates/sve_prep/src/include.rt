@@ -8,9 +8,10 @@ ghost use Rattle.sve_prep.specs.Includes.{include_text, include};
 ghost use Rattle.sve_prep.specs.View.{Becomes, Leads, view, flow};
 ghost use Rattle.sve_prep.specs.Halts.{StepsTo, HaltsAt};
 
+use crate::name::{copies, name_of};
 use crate::texts::Texts;
 use crate::work::Work;
-use std::alloc::{AllocError, Global};
+use std::alloc::Global;
 use std::sync::Arc;
 use sve_bytes::{List, Name, NoMemory, is_file_name};
 use sve_diag::{Code, Place};
@@ -26,30 +27,7 @@ fn cut(alloc: Global, bytes: &[u8]) -> Result<Option<Name>, NoMemory>
     if bytes.is_empty() {
         return Ok(None);
     }
-    match Name::of(alloc, &bytes[..bytes.len().min(1024)]) {
-        Ok(name) => Ok(Some(name)),
-        Err(_) => Err(AllocError),
-    }
-}
-
-/// The name of a file.
-fn file_name(alloc: Global, bytes: &[u8]) -> Result<Name, NoMemory>
-    ensures { IfOk result (λ name. name ≡ bytes.now) }
-{
-    match Name::of(alloc, bytes) {
-        Ok(name) => Ok(name),
-        Err(_) => Err(AllocError),
-    }
-}
-
-fn copies(alloc: Global, names: &[Name]) -> Result<List<Name>, NoMemory>
-    ensures { IfOk result (λ all. all ≡ names.now) }
-{
-    let mut all = Vec::new(alloc);
-    for name in names {
-        all.push(name.copy()?)?;
-    }
-    Ok(List::of(all))
+    Ok(Some(name_of(alloc, &bytes[..bytes.len().min(1024)])?))
 }
 
 impl Work {
@@ -120,10 +98,10 @@ pub fn include<T: Texts>(
     ensures tells { TellSame (T.tells texts.old) (T.tells texts.new) }
     ensures keeps { T.keeps texts.old texts.new }
     ensures step { IfOk result (λ on. StepsTo (T.tells texts.old) (λ told. include told file.now count (view work.old (T.asked texts.old))) (flow on (view work.new (T.asked texts.new)))) }
-    ensures calm { OnOk result (T.halted texts.new ≡ T.halted texts.old) }
+    ensures not_halted { OnOk result (T.halted texts.new ≡ T.halted texts.old) }
     ensures halted { HaltsAt (T.tells texts.old) (T.halted texts.old) (T.halted texts.new) (T.asked texts.new) (IsErr result) (λ told. include told file.now count (view work.old (T.asked texts.old))) }
     ensures stopped { IfErr result (HasStopped (T.stops texts.old) (T.stops texts.new)) }
-    ensures went { OnOk result (T.stops texts.new ≡ T.stops texts.old) }
+    ensures not_stopped { OnOk result (T.stops texts.new ≡ T.stops texts.old) }
 {
     if work.is_too_far() {
         let arg = cut(alloc, file)?;
@@ -135,7 +113,7 @@ pub fn include<T: Texts>(
         work.refuse(Code::P08, arg, count)?;
         return Ok(true);
     }
-    let name = file_name(alloc, file)?;
+    let name = name_of(alloc, file)?;
     match texts.text(&name)? {
         None => {
             work.refuse(Code::P08, Some(name), count)?;

@@ -7,6 +7,7 @@ mod conditionals;
 mod directives;
 mod include;
 mod laws;
+mod name;
 mod start;
 mod texts;
 mod uses;
@@ -17,6 +18,3 @@ pub use start::prep;
 pub use sve_io::Halt;
 pub use sve_origin::{Expanded, Segment};
 pub use texts::Texts;
-
-#[cfg(test)]
-mod tests;

@@ -18,7 +18,7 @@ use sve_origin::{Expanded, Output};
 use sve_unread::Stack;
 
 /// The state before the first byte of a text.
-fn begin(alloc: Global, root: &Name, text: Option<Arc<List<u8>>>) -> Result<Work, NoMemory>
+fn new_work(alloc: Global, root: &Name, text: Option<Arc<List<u8>>>) -> Result<Work, NoMemory>
     requires { IsShort text }
     ensures named { IfOk result (λ _. length root.now ≤ 1024) }
     ensures begun { IfOk result (λ work. (asked : Option (List (List ℕ))) → view work (noted root.now asked) ≡ begin_with fresh asked root.now (text_or_empty (text_in text))) }
@@ -62,14 +62,14 @@ pub fn prep<T: Texts>(alloc: Global, texts: &mut T, root: &Name) -> Result<Expan
     ensures keeps { T.keeps texts.old texts.new }
     ensures done { (told : Told) → Holds told (T.tells texts.old) → IfOk result (λ e.
         Expands (expand told fresh (T.asked texts.old) root.now) e (T.asked texts.new)) }
-    ensures calm { OnOk result (T.halted texts.new ≡ T.halted texts.old) }
+    ensures not_halted { OnOk result (T.halted texts.new ≡ T.halted texts.old) }
     ensures halted { (told : Told) → Matches told (T.tells texts.old) → T.halted texts.old ≡ None → (name : List ℕ) → T.halted texts.new ≡ Some name
         → IsErr result × IsWanting name (T.asked texts.new) (expand told fresh (T.asked texts.old) root.now) }
     ensures stopped { IfErr result (HasStopped (T.stops texts.old) (T.stops texts.new)) }
-    ensures went { OnOk result (T.stops texts.new ≡ T.stops texts.old) }
+    ensures not_stopped { OnOk result (T.stops texts.new ≡ T.stops texts.old) }
 {
     let text = texts.text(root)?;
-    let mut work = begin(alloc, root, text)?;
+    let mut work = new_work(alloc, root, text)?;
     let mut on = true;
     'steps: while on {
         on = advance(alloc, texts, &mut work)?;

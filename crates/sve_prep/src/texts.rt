@@ -38,11 +38,11 @@ pub trait Texts {
         ensures asked { OnOk result (asked self.new ≡ noted name.now (asked self.old)) }
 
         // It halts only at a name of which it tells nothing, and the number of a stop is kept.
-        ensures calm { OnOk result (halted self.new ≡ halted self.old) }
+        ensures not_halted { OnOk result (halted self.new ≡ halted self.old) }
         ensures halted { (other : List ℕ) → halted self.new ≡ Some other
             → (halted self.old ≡ Some other) ⊎ IsMissing (tells self.old) (asked self.old) (asked self.new) name.now result other }
         ensures stopped { IfErr result (HasStopped (stops self.old) (stops self.new)) }
-        ensures went { OnOk result (stops self.new ≡ stops self.old) };
+        ensures not_stopped { OnOk result (stops self.new ≡ stops self.old) };
 
     // Each object is the same as itself, and what is the same as the same is the same.
     ghost keeps_itself: { (texts : Self) → keeps texts texts };

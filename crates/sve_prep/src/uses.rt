@@ -1,20 +1,21 @@
 ghost use Rattle.std.specs.Prelude.{◌≡◌, ℕ, ◌+◌, ◌-◌, ◌<◌, ◌≤◌, ◌^◌, ◌++◌, ◌∷◌, [], List, Option, Some, None, map, length, IfOk, IfSome, OnOk, IsTrue, bytes_eq, nat_lt, nat_le, if◌then◌else◌};
-ghost use Rattle.std.specs.List.{list_any, prefix_len};
+ghost use Rattle.std.specs.List.{list_any};
 ghost use Rattle.std.specs.Fmt.{decimal};
 ghost use Rattle.sve_macro.specs.Macros.{macro_of};
 ghost use Rattle.sve_macro.specs.Parts.{actuals_of};
 ghost use Rattle.sve_macro.specs.Substitution.{accepts, substituted};
 ghost use Rattle.sve_unread.specs.Bytes.{ahead};
 ghost use Rattle.sve_unread.specs.Head.{height, head_origin, head_line, head_macros, head_level};
-ghost use Rattle.sve_directive.specs.Bytes.{is_white_space, begins_with};
+ghost use Rattle.sve_directive.specs.Bytes.{begins_with};
 ghost use Rattle.sve_prep.specs.Uses.{part_in, past_blanks, list_start};
 
+use crate::name::with_name;
 use crate::work::Work;
 use std::alloc::{AllocError, Global};
 use std::sync::Arc;
-use sve_bytes::{List, Name, NoMemory, Span};
+use sve_bytes::{List, Name, NoMemory, Span, white_space_len};
 use sve_diag::{Code, Place};
-use sve_macro::{ActualFault, Macro, actuals, substitute_below, takes};
+use sve_macro::{ActualFault, Macro, SubstFault, actuals, substitute_below};
 
 /// An expansion does at most so much work (own).
 const WORK_LIMIT: u32 = 4_194_304;
@@ -26,18 +27,6 @@ fn contains(names: &[Name], name: &Name) -> bool
     ensures { result ≡ list_any (bytes_eq name.now) names.now }
 {
     names.iter().any(|other| name.bytes() == other.bytes())
-}
-
-/// The names behind this one.
-fn with_name(alloc: Global, name: Name, names: &[Name]) -> Result<List<Name>, NoMemory>
-    ensures { IfOk result (λ all. all ≡ name ∷ names.now) }
-{
-    let mut all = Vec::with_capacity(alloc, names.len() + 1)?;
-    all.push(name)?;
-    for other in names {
-        all.push(other.copy()?)?;
-    }
-    Ok(List::of(all))
 }
 
 /// The bytes of a part of a text.
@@ -69,21 +58,13 @@ fn begins_with(byte: u8, text: &[u8]) -> bool
     }
 }
 
-/// How many bytes of white space a text begins with.
-fn blank_len(text: &[u8]) -> usize
-    ensures len { result ≡ prefix_len is_white_space text.now }
-    ensures within { result ≤ length text.now }
-{
-    text.iter().take_while(|b| b.is_ascii_whitespace()).count()
-}
-
 /// The first place from a place on that is no white space.
 fn past_blanks(text: &[u8], from: usize) -> usize
     requires { from ≤ length text.now }
     ensures place { result ≡ past_blanks text.now from }
     ensures within { result ≤ length text.now }
 {
-    from + blank_len(&text[from..])
+    from + white_space_len(&text[from..])
 }
 
 /// The place behind the `(` that begins a list of actuals, if one stands behind a name that ends here.
@@ -213,7 +194,7 @@ impl Work {
         ensures comes { IfOk result (λ u. Comes self.now name.now u (use_with name.now definition.now actuals.now count)) }
         ensures within { IfOk result (λ u. use_length u ≤ length (ahead self.now.rest)) }
     {
-        if !takes(definition, actuals) {
+        if !definition.takes(actuals) {
             return Ok(Use::Refused(Code::P04, count));
         }
         if self.is_inside(name) {
@@ -225,7 +206,8 @@ impl Work {
         match substitute_below(alloc, definition, actuals, self.room()) {
             Ok(Some(text)) => Ok(Use::Gives(text, count)),
             Ok(None) => Ok(Use::PassesLimit),
-            Err(_) => Err(AllocError),
+            Err(SubstFault::NoMemory) => Err(AllocError),
+            Err(SubstFault::Count) => unreachable!(),
         }
     }
 
@@ -266,7 +248,7 @@ impl Work {
         ensures comes { IfOk result (λ u. Comes self.now name.now u (use_found name.now count (Some definition.now))) }
         ensures within { IfOk result (λ u. use_length u ≤ length (ahead self.now.rest)) }
     {
-        if !definition.has_list {
+        if !definition.definition().has_list {
             return self.use_with(alloc, name, definition, &[], count);
         }
         match list_start(self.rest.ahead(), count) {

@@ -21,10 +21,10 @@ returns-then-not-is_file_name-clause-step g c =
     asks_nothing _ _ _ (λ told. include_unnamed told c.args.file.now c.args.count s c.is_too_far.ensures c.if-is_too_far.false c.is_file_name.ensures c.if-not-is_file_name.true c.in_ok-arg-2.ensures ∙ ap Goes (sym (c.in_ok-refuse-2.ensures asked)))
 
 pub returns-in_err-text-clause-halted : goal.returns-in_err-text-clause-halted
-returns-in_err-text-clause-halted g c = λ told m calm name e.
+returns-in_err-text-clause-halted g c = λ told m not_halted name e.
     let s = view c.args.work.now (g.T.Texts.asked c.args.texts.now) in
     let r = err_from_is_err_and c.from_residual-in_err-text.result c.from_residual-in_err-text.ensures.1 in
-    after_missing _ _ name (λ k. c.in_err-text.ensures.halted name k) calm e
+    after_missing _ _ name (λ k. c.in_err-text.ensures.halted name k) not_halted e
     (λ a. (ap is_err r.1, include_missing told (g.T.Texts.tells c.args.texts.now) c.args.file.now _ name c.args.count s _ c.is_too_far.ensures c.if-is_too_far.false c.is_file_name.ensures c.if-not-is_file_name.false m c.in_ok-name.ensures a.1 a.2 a.3))
 
 pub returns-in_ok-refuse-in-None-clause-step : goal.returns-in_ok-refuse-in-None-clause-step
