@@ -1,25 +1,11 @@
 //! `svserve`: runs a recorded session and reports its history and every answer.
 #![tactic(auto)]
 
-mod answering;
-mod cutting;
-mod entry;
-mod file_texts;
-mod history;
-mod record;
-mod reporting;
-mod running;
-mod serving;
-mod status;
-mod transfer;
-mod words;
-
-use serving::serve;
-use status::Status;
 use std::alloc::AllocError;
 use std::process::ExitCode;
 use std::{env, io};
 use sve_io::{RealIn, RealOut};
+use sve_serve::{Status, complaint, exit_code, serve};
 
 /// The words behind the program's name. Where one is no UTF-8 there are none, which asks for nothing.
 fn spoken_words(rt: &HostRuntime) -> Result<Vec<String>, AllocError> {
@@ -39,8 +25,9 @@ fn main(rt: HostRuntime) -> ExitCode {
         }
         Err(AllocError) => Status::NoMemory,
     };
-    ExitCode::from(status as u8)
+    if let Some(line) = complaint(status) {
+        // Where standard error fails too, the exit status still tells.
+        let _ = eprintln!(rt; "{line}");
+    }
+    ExitCode::from(exit_code(status))
 }
-
-#[cfg(test)]
-mod tests;

@@ -5,10 +5,9 @@ mod commands;
 mod member;
 mod one_reading;
 mod reading;
+mod threads;
 
 pub use commands::{BadSession, Command, MAX_COMMANDS, MAX_EDITS, MAX_FILES, Query, Script};
 pub use one_reading::bytes_have_one_reading;
 pub use reading::script;
-
-#[cfg(test)]
-mod tests;
+pub use threads::may_cross_threads;

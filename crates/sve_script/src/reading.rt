@@ -1,7 +1,6 @@
 //! Reading a session: one function for each part of its form, over the value that the bytes have as JSON.
-ghost use Rattle.std.specs.Prelude.{◌≡◌, ◌+◌, Some, None, if◌then◌else◌, IfOk, IsErrOf, length, nat_le, sum_by};
+ghost use Rattle.std.specs.Prelude.{◌≡◌, ◌+◌, IfOk, IsErrOf, length, nat_le, sum_by};
 ghost use Rattle.serde_json.specs.View.{view, items_view, members_view};
-ghost use Rattle.sve_bytes.specs.FileName.{is_file_name_of};
 ghost use Rattle.sve_script.specs.Shapes.{each_as};
 ghost use Rattle.sve_text.specs.Files.{TextsFit};
 ghost use Rattle.sve_script.specs.Distinct.{have_distinct_names};
@@ -13,29 +12,14 @@ use crate::member::{Object, has_both, has_only, items_under, text_under};
 use serde_json::Value;
 use std::alloc::{AllocError, Global};
 use std::collections::BTreeSet;
-use sve_bytes::{BadName, List, Name, is_file_name};
-use sve_text::{Edit, Files, MAX_FILE_LEN, Mode};
+use sve_bytes::{List, Name};
+use sve_text::{Edit, Files, MAX_FILE_LEN, Mode, Text, file_name};
 
 /// What a part of a session is taken for: `None` where it is not of the form, and an error only for want of memory.
 type Taken<T> = Result<Option<T>, AllocError>;
 
-/// The name of a file, where the bytes are one: 1 to 255 of them.
-fn file_name(alloc: Global, bytes: &[u8]) -> Taken<Name>
-    ensures { IfOk result (λ o. o ≡ (if is_file_name_of bytes.now then Some bytes.now else None)) }
-{
-    if !is_file_name(bytes) {
-        return Ok(None);
-    }
-    match Name::of(alloc, bytes) {
-        Ok(name) => Ok(Some(name)),
-        Err(BadName::NoMemory) => Err(AllocError),
-        Err(BadName::Empty) => unreachable!(),
-        Err(BadName::TooLong(_)) => unreachable!(),
-    }
-}
-
-/// A file of this name and text. The text is copied once, from the string to the file.
-fn file(alloc: Global, name: &str, text: &str) -> Taken<(Name, List<u8>)>
+/// A file of this name and text. The text is copied once, from the string, and shared from then on.
+fn file(alloc: Global, name: &str, text: &str) -> Taken<(Name, Text)>
     ensures { IfOk result (λ o. o ≡ file_of name.now text.now) }
 {
     if text.len() > MAX_FILE_LEN {
@@ -44,8 +28,8 @@ fn file(alloc: Global, name: &str, text: &str) -> Taken<(Name, List<u8>)>
     let Some(name) = file_name(alloc, name.as_bytes())? else {
         return Ok(None);
     };
-    let text = List::of(Vec::from_slice(alloc, text.as_bytes())?);
-    Ok(Some((name, text)))
+    let bytes = List::of(Vec::from_slice(alloc, text.as_bytes())?);
+    Ok(Some((name, Text::of(alloc, bytes)?)))
 }
 
 /// The edit `{"put": name, "text": text}`.
@@ -215,7 +199,7 @@ fn has_few_edits(files: usize, commands: &[Command]) -> bool
 
 /// Whether there is one client, with no more commands, and no more edits beside so many opening files, than a session
 /// may have.
-fn are_in_limits(files: &[(Name, List<u8>)], clients: &[List<Command>]) -> bool
+fn are_in_limits(files: &[(Name, Text)], clients: &[List<Command>]) -> bool
     ensures { result ≡ is_in_limits files.now clients.now }
 {
     match clients {
@@ -227,7 +211,7 @@ fn are_in_limits(files: &[(Name, List<u8>)], clients: &[List<Command>]) -> bool
 }
 
 /// One file before the first commit.
-fn opening_file(alloc: Global, value: &Value) -> Taken<(Name, List<u8>)>
+fn opening_file(alloc: Global, value: &Value) -> Taken<(Name, Text)>
     ensures { IfOk result (λ o. o ≡ opening_file_of (view value.now)) }
 {
     let Some(members) = value.as_object() else {
@@ -243,7 +227,7 @@ fn opening_file(alloc: Global, value: &Value) -> Taken<(Name, List<u8>)>
 }
 
 /// Files before the first commit, in their order.
-fn opening_files(alloc: Global, items: &[Value]) -> Taken<List<(Name, List<u8>)>>
+fn opening_files(alloc: Global, items: &[Value]) -> Taken<List<(Name, Text)>>
     ensures { IfOk result (λ o. o ≡ each_as opening_file_of (items_view items.now)) }
 {
     let mut files = Vec::new(alloc);
@@ -281,7 +265,7 @@ fn session_with(alloc: Global, members: &Object) -> Taken<Script>
 /// The session with these opening files and clients.
 fn session_from(
     alloc: Global,
-    files: List<(Name, List<u8>)>,
+    files: List<(Name, Text)>,
     clients: List<List<Command>>,
 ) -> Taken<Script>
     requires { TextsFit files }
@@ -297,7 +281,7 @@ fn session_from(
 }
 
 /// Whether no two files have one name.
-fn are_distinct(alloc: Global, files: &[(Name, List<u8>)]) -> Result<bool, AllocError>
+fn are_distinct(alloc: Global, files: &[(Name, Text)]) -> Result<bool, AllocError>
     ensures { IfOk result (λ are. are ≡ have_distinct_names files.now) }
 {
     let mut seen = BTreeSet::new(alloc);

@@ -2,3 +2,4 @@ pub mod Commits
 pub mod Opening
 pub mod Order
 pub mod Puts
+pub mod ShortNames

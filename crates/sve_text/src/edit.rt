@@ -1,8 +1,8 @@
 ghost use Rattle.std.specs.Prelude.{◌≡◌, IfOk};
 ghost use Rattle.sve_text.specs.Files.{name_of};
 
-use std::alloc::Global;
-use sve_bytes::{List, Name, NoMemory};
+use crate::text::Text;
+use sve_bytes::{Name, NoMemory};
 
 /// The greatest length of a file's text, in bytes (own).
 pub const MAX_FILE_LEN: usize = 1_048_576;
@@ -11,7 +11,7 @@ pub const MAX_FILE_LEN: usize = 1_048_576;
 #[derive(Drop)]
 pub enum Edit {
     /// The file has this text from now on, whether or not it was there (own).
-    Put { name: Name, text: List<u8> },
+    Put { name: Name, text: Text },
 }
 
 impl Edit {
@@ -24,14 +24,17 @@ impl Edit {
         }
     }
 
-    /// The same edit, with a text of its own.
-    pub fn copy(&self, alloc: Global) -> Result<Edit, NoMemory>
+    /// The same edit, which shares its text.
+    ///
+    /// # Errors
+    /// Only for want of memory.
+    pub fn copy(&self) -> Result<Edit, NoMemory>
         ensures { IfOk result (λ e. e ≡ self.now) }
     {
         match self {
             Edit::Put { name, text } => Ok(Edit::Put {
                 name: name.copy()?,
-                text: List::of(Vec::from_slice(alloc, text.items())?),
+                text: text.share()?,
             }),
         }
     }

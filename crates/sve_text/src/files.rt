@@ -5,6 +5,7 @@ ghost use Rattle.sve_text.specs.Files.{opening_files, HaveDistinctNames, TextsFi
 
 use crate::piece::Piece;
 use crate::row::StoredRow;
+use crate::text::Text;
 use crate::tree::Tree;
 use std::alloc::Global;
 use std::marker::Model;
@@ -33,11 +34,11 @@ impl Model for Files {
 
 impl Files {
     /// The opening files, each with stamp 0, on condition that no two have one name and no text is
-    /// above 1,048,576 bytes. The texts are moved, not copied.
+    /// above 1,048,576 bytes.
     ///
     /// # Errors
     /// Only for want of memory.
-    pub fn of(alloc: Global, files: Vec<(Name, List<u8>)>) -> Result<Files, NoMemory>
+    pub fn of(alloc: Global, files: Vec<(Name, Text)>) -> Result<Files, NoMemory>
         requires distinct_names { HaveDistinctNames files.items }
         requires texts_in_limit { TextsFit files.items }
         ensures files { IfOk result (λ f. f ≡ opening_files files.items) }
@@ -46,7 +47,7 @@ impl Files {
         'files: for (name, text) in files {
             let row = StoredRow {
                 name,
-                text: Some(Arc::new(alloc, text)?),
+                text: Some(text),
                 stamp: 0,
             };
             tree = tree.put(alloc, row)?;
@@ -65,7 +66,7 @@ impl Files {
     {
         let row = self.tree.find(name)?;
         match &row.text {
-            Some(text) => Some(Piece::of(text.items())),
+            Some(text) => Some(Piece::of(text.bytes())),
             None => None,
         }
     }
@@ -82,7 +83,7 @@ impl Files {
             return Ok(None);
         };
         match &row.text {
-            Some(text) => Ok(Some(Arc::try_clone(text)?)),
+            Some(text) => Ok(Some(text.holder()?)),
             None => Ok(None),
         }
     }

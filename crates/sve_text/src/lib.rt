@@ -4,15 +4,18 @@
 mod edit;
 mod files;
 pub mod laws;
+mod naming;
 mod piece;
 mod revision;
 mod row;
+mod text;
+mod threads;
 mod tree;
 
 pub use edit::{Edit, MAX_FILE_LEN, Mode};
 pub use files::Files;
+pub use naming::file_name;
 pub use piece::Piece;
 pub use revision::apply;
-
-#[cfg(test)]
-mod tests;
+pub use text::Text;
+pub use threads::may_cross_threads;

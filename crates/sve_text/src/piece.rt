@@ -1,10 +1,8 @@
-ghost use Rattle.std.specs.Prelude.{◌≡◌, ◌<◌, IfOk, length, take, drop};
+ghost use Rattle.std.specs.Prelude.{◌≡◌, ◌<◌, length, take, drop};
 
-use std::alloc::Global;
 use std::marker::Model;
-use sve_bytes::NoMemory;
 
-/// The text of a file, lent from the files that hold it.
+/// A text, as that of a file, lent from what holds it.
 #[derive(Drop)]
 pub struct Piece<'a> {
     text: &'a [u8],
@@ -19,8 +17,8 @@ impl<'a> Model for Piece<'a> {
 }
 
 impl<'a> Piece<'a> {
-    /// The piece of this text.
-    pub(crate) fn of(text: &'a [u8]) -> Piece<'a>
+    /// The piece that is this text, in one run. It takes no memory.
+    pub fn of(text: &'a [u8]) -> Piece<'a>
         ensures { result ≡ text.now }
     {
         Piece { text }
@@ -41,12 +39,5 @@ impl<'a> Piece<'a> {
         ensures run { result.now ≡ take (length result.now) (drop at self.now) }
     {
         &self.text[at..]
-    }
-
-    /// The whole text, copied.
-    pub fn copy(&self, alloc: Global) -> Result<Vec<u8>, NoMemory>
-        ensures { IfOk result (λ v. v.items ≡ self.now) }
-    {
-        Vec::from_slice(alloc, self.text)
     }
 }

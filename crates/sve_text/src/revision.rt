@@ -9,13 +9,12 @@ use crate::files::Files;
 use crate::row::StoredRow;
 use crate::tree::Tree;
 use std::alloc::Global;
-use std::sync::Arc;
-use sve_bytes::{List, NoMemory};
+use sve_bytes::NoMemory;
 
 /// The files after the commit of these edits, which makes revision `r`, on condition that no text in
 /// them is above 1,048,576 bytes: the edits in order, each on what the earlier ones left. Each touched
-/// name gets stamp `r`, and so does the set of the names that are there, unless it stays as it is. A
-/// text is copied once, and what no edit touches is shared with `files`.
+/// name gets stamp `r`, and so does the set of the names that are there, unless it stays as it is. Texts
+/// are shared with `edits`, and what no edit touches with `files`.
 ///
 /// # Errors
 /// Only for want of memory.
@@ -41,10 +40,7 @@ fn tree_after(alloc: Global, tree: &Tree, edit: &Edit, r: u64) -> Result<Tree, N
     ensures { IfOk result (λ t. rows_in t ≡ edited r (rows_in tree.now) edit.now) }
 {
     let text = match edit {
-        Edit::Put { text, .. } => {
-            let text = List::of(Vec::from_slice(alloc, text.items())?);
-            Some(Arc::new(alloc, text)?)
-        }
+        Edit::Put { text, .. } => Some(text.share()?),
     };
     let row = StoredRow {
         name: edit.name().copy()?,

@@ -1,25 +1,23 @@
 ghost use Rattle.std.specs.Prelude.{◌≡◌, IfOk};
 
+use crate::text::Text;
 use std::marker::Model;
-use std::sync::Arc;
-use sve_bytes::{List, Name, NoMemory};
+use sve_bytes::{Name, NoMemory};
 
 /// What stands at a name. Copies share the text.
 #[derive(Drop)]
 pub(crate) struct StoredRow {
     pub(crate) name: Name,
-    pub(crate) text: Option<Arc<List<u8>>>,
+    pub(crate) text: Option<Text>,
     pub(crate) stamp: u64,
 }
 
 impl Model for StoredRow {
-    ghost use Rattle.std.specs.Prelude.{option_map};
-    ghost use Rattle.std.specs.Arc.{arc_value};
     ghost use Rattle.sve_text.specs.Rows.{Row};
 
     ghost Value = { Row };
 
-    ghost view = { λ s. record { name = s.name; text = option_map arc_value s.text; stamp = s.stamp } };
+    ghost view = { λ s. record { name = s.name; text = s.text; stamp = s.stamp } };
 }
 
 impl StoredRow {
@@ -28,7 +26,7 @@ impl StoredRow {
         ensures { IfOk result (λ s. s ≡ self.now) }
     {
         let text = match &self.text {
-            Some(text) => Some(Arc::try_clone(text)?),
+            Some(text) => Some(text.share()?),
             None => None,
         };
         Ok(StoredRow {

@@ -48,22 +48,6 @@ impl Tree {
         }
     }
 
-    /// The number of rows on the longest way down.
-    #[cfg(test)]
-    pub(crate) fn depth(&self) -> u64 {
-        match self {
-            Tree::Leaf => 0,
-            Tree::Fork(branch) => {
-                let branch: &Branch = branch;
-                branch
-                    .left
-                    .depth()
-                    .max(branch.right.depth())
-                    .saturating_add(1)
-            }
-        }
-    }
-
     /// The row of a name, where the name was touched.
     #[tactic(auto, using(crate::proofs::Order::at_fork))]
     pub(crate) fn find(&self, name: &Name) -> Option<&StoredRow>

@@ -1,0 +1,205 @@
+-- A report is read back.
+use Rattle.std.proofs.Common.{◌≡◌, ℕ, ◌+◌, ◌^◌, ◌<◌, ◌≤◌, List, [], ◌∷◌, ◌++◌, length, get_or, codes, decimal, refl, sym, ◌∙◌, ap, subst, arith, append_assoc, length-append}
+use Rattle.std.specs.Str.Parse.{digits_value}
+use Rattle.std.proofs.lemmas.Fmt.{decimal_is_IsNumeral, decimal_nonempty}
+use Rattle.sve_report.specs.declared.entry.Entry.{Entry}
+use Rattle.sve_report.specs.declared.record.Record.{Record}
+use Rattle.sve_report.specs.declared.record.Record.TheVariants.{Accepted, Answered}
+use Rattle.sve_report.specs.Lines.{ended, text_of_lines, Lacks, AreLines}
+use Rattle.sve_report.specs.Reports.{entry_line, entry_lines, record_lines, client_lines, clients_lines, report}
+use Rattle.sve_report.specs.ReadBack.{Fits64, EntriesFit, RecordFits, RecordsFit, AllRecordsFit, IsReadBack}
+use Rattle.sve_report.proofs.LineTexts.{AreDigits, digits-decimal, decimal-lacks, lacks-append, lacks_by, text-append, are_lines-append}
+
+-- the two parts of a text round the first byte that the first part lacks
+parted : (b : ℕ) (xs ys ts us : List ℕ) → Lacks b xs → Lacks b ys → xs ++ b ∷ ts ≡ ys ++ b ∷ us → (xs ≡ ys) × (ts ≡ us)
+parted b [] [] ts us lx ly e = (refl, cc)
+parted b [] (y ∷ ys) ts us lx ly e = let same : y ≡ b = cc in absurd (ly.0 same)
+parted b (x ∷ xs) [] ts us lx ly e = let same : x ≡ b = cc in absurd (lx.0 same)
+parted b (x ∷ xs) (y ∷ ys) ts us lx ly e =
+    let first : x ≡ y = cc in
+    let rest : xs ++ b ∷ ts ≡ ys ++ b ∷ us = cc in
+    let p = parted b xs ys ts us lx.1 ly.1 rest in
+    ((λ k. first k ∷ p.0 k), p.1)
+
+same_number : (m n : ℕ) → Fits64 m → Fits64 n → decimal m ≡ decimal n → m ≡ n
+same_number m n fm fn e = sym (decimal_is_IsNumeral m fm).1 ∙ ap (digits_value 10) e ∙ (decimal_is_IsNumeral n fn).1
+
+front_gone : {A : Type 0} (xs ts us : List A) → xs ++ ts ≡ xs ++ us → ts ≡ us
+front_gone [] ts us e = e
+front_gone (x ∷ xs) ts us e = front_gone xs ts us (let rest : xs ++ ts ≡ xs ++ us = cc in rest)
+
+fronts_same : {A : Type 0} (xs ys ts us : List A) → length xs ≡ length ys → xs ++ ts ≡ ys ++ us → (xs ≡ ys) × (ts ≡ us)
+fronts_same [] [] ts us size e = (refl, e)
+fronts_same [] (y ∷ ys) ts us size e = absurd (omega (arith, size))
+fronts_same (x ∷ xs) [] ts us size e = absurd (omega (arith, size))
+fronts_same (x ∷ xs) (y ∷ ys) ts us size e =
+    let first : x ≡ y = cc in
+    let rest : xs ++ ts ≡ ys ++ us = cc in
+    let p = fronts_same xs ys ts us (omega (arith, size)) rest in
+    ((λ k. first k ∷ p.0 k), p.1)
+
+-- one line, and the text after it
+line_parted : (l m ts us : List ℕ) → Lacks 10 l → Lacks 10 m → ended l ++ ts ≡ ended m ++ us → (l ≡ m) × (ts ≡ us)
+line_parted l m ts us ll lm e = parted 10 l m ts us ll lm (sym (append_assoc l (10 ∷ []) ts) ∙ e ∙ append_assoc m (10 ∷ []) us)
+
+lines_read : (ls ms : List (List ℕ)) → AreLines ls → AreLines ms → text_of_lines ls ≡ text_of_lines ms → ls ≡ ms
+lines_read [] [] hl hm e = refl
+lines_read [] (m ∷ ms) hl hm e = absurd (omega (arith, ap length e, length-append (ended m) (text_of_lines ms), length-append m (10 ∷ [])))
+lines_read (l ∷ ls) [] hl hm e = absurd (omega (arith, ap length e, length-append (ended l) (text_of_lines ls), length-append l (10 ∷ [])))
+lines_read (l ∷ ls) (m ∷ ms) hl hm e =
+    let p = line_parted l m (text_of_lines ls) (text_of_lines ms) hl.0 hm.0 e in
+    (λ k. p.0 k ∷ lines_read ls ms hl.1 hm.1 p.1 k)
+
+-- ---- entries
+
+entry_line-right : (r : ℕ) (e : Entry) → entry_line r e ≡ decimal r ++ 32 ∷ (decimal e.client ++ 32 ∷ decimal e.command)
+entry_line-right r e = simp append_assoc
+
+entry_lacks : (r : ℕ) (e : Entry) → Fits64 r → Fits64 e.client → Fits64 e.command → Lacks 10 (entry_line r e)
+entry_lacks r e fr fc fk =
+    subst (Lacks 10) (sym (entry_line-right r e))
+    (lacks-append 10 (decimal r) _ (decimal-lacks 10 r (omega arith) fr)
+    ((λ same. absurd (omega (arith, same))), lacks-append 10 (decimal e.client) _ (decimal-lacks 10 e.client (omega arith) fc) ((λ same. absurd (omega (arith, same))), decimal-lacks 10 e.command (omega arith) fk)))
+
+entry_read : (r : ℕ) (e f : Entry) → Fits64 e.client → Fits64 e.command → Fits64 f.client → Fits64 f.command → entry_line r e ≡ entry_line r f → e ≡ f
+entry_read r e f ec ek fc fk same =
+    let tails = front_gone (decimal r) _ _ (sym (entry_line-right r e) ∙ same ∙ entry_line-right r f) in
+    let inner : decimal e.client ++ 32 ∷ decimal e.command ≡ decimal f.client ++ 32 ∷ decimal f.command = cc (tails) in
+    let p = parted 32 (decimal e.client) (decimal f.client) (decimal e.command) (decimal f.command) (decimal-lacks 32 e.client (omega arith) ec) (decimal-lacks 32 f.client (omega arith) fc) inner in
+    let client = same_number e.client f.client ec fc p.0 in
+    let command = same_number e.command f.command ek fk p.1 in
+    (λ k. record { client = client k; command = command k })
+
+entries_read : (r : ℕ) (es fs : List Entry) (ts us : List ℕ) → EntriesFit es → EntriesFit fs → length es ≡ length fs → r + length es ≤ 2 ^ 64
+    → text_of_lines (entry_lines r es) ++ ts ≡ text_of_lines (entry_lines r fs) ++ us → es ≡ fs
+entries_read r [] [] ts us he hf size fits e = refl
+entries_read r [] (f ∷ fs) ts us he hf size fits e = absurd (omega (arith, size))
+entries_read r (x ∷ es) [] ts us he hf size fits e = absurd (omega (arith, size))
+entries_read r (x ∷ es) (f ∷ fs) ts us he hf size fits e =
+    let whole = sym (append_assoc (ended (entry_line r x)) (text_of_lines (entry_lines (r + 1) es)) ts) ∙ e ∙ append_assoc (ended (entry_line r f)) (text_of_lines (entry_lines (r + 1) fs)) us in
+    let small : Fits64 r = omega (arith, fits) in
+    let p = line_parted (entry_line r x) (entry_line r f) _ _ (entry_lacks r x small he.0 he.1) (entry_lacks r f small hf.0 hf.1) whole in
+    let first = entry_read r x f he.0 he.1 hf.0 hf.1 p.0 in
+    let rest = entries_read (r + 1) es fs ts us he.2 hf.2 (omega (arith, size)) (omega (arith, fits)) p.1 in
+    (λ k. first k ∷ rest k)
+
+head_lacks : (n : ℕ) → Fits64 n → Lacks 10 (codes "history " ++ decimal n)
+head_lacks n fits = lacks-append 10 (codes "history ") (decimal n) (lacks_by 10 (codes "history ") refl) (decimal-lacks 10 n (omega arith) fits)
+
+report-parts : (es : List Entry) (rs : List (List Record)) → report es rs ≡ ended (codes "history " ++ decimal (length es)) ++ (text_of_lines (entry_lines 1 es) ++ text_of_lines (clients_lines 1 rs))
+report-parts es rs = ap (λ (t : List ℕ). ended (codes "history " ++ decimal (length es)) ++ t) (text-append (entry_lines 1 es) (clients_lines 1 rs))
+
+history_read : (es fs : List Entry) (rs ss : List (List Record)) → Fits64 (length es) → Fits64 (length fs) → EntriesFit es → EntriesFit fs → report es rs ≡ report fs ss → es ≡ fs
+history_read es fs rs ss se sf he hf e =
+    let p = line_parted (codes "history " ++ decimal (length es)) (codes "history " ++ decimal (length fs)) _ _ (head_lacks (length es) se) (head_lacks (length fs) sf) (sym (report-parts es rs) ∙ e ∙ report-parts fs ss) in
+    let size = same_number (length es) (length fs) se sf (front_gone (codes "history ") _ _ p.0) in
+    entries_read 1 es fs _ _ he hf size (omega (arith, se)) p.1
+
+-- ---- records
+
+accepted_lacks : (j r : ℕ) → Fits64 j → Fits64 r → Lacks 10 (decimal j ++ codes " accepted " ++ decimal r)
+accepted_lacks j r fj fr = lacks-append 10 _ (decimal r) (lacks-append 10 (decimal j) _ (decimal-lacks 10 j (omega arith) fj) (lacks_by 10 (codes " accepted ") refl)) (decimal-lacks 10 r (omega arith) fr)
+
+answered_lacks : (j r n : ℕ) → Fits64 j → Fits64 r → Fits64 n → Lacks 10 (decimal j ++ codes " answer " ++ decimal r ++ codes " " ++ decimal n)
+answered_lacks j r n fj fr fn =
+    lacks-append 10 _ (decimal n) (lacks-append 10 _ (codes " ") (lacks-append 10 _ (decimal r) (lacks-append 10 (decimal j) _ (decimal-lacks 10 j (omega arith) fj) (lacks_by 10 (codes " answer ") refl)) (decimal-lacks 10 r (omega arith) fr)) (lacks_by 10 (codes " ") refl)) (decimal-lacks 10 n (omega arith) fn)
+
+record_are_lines : (j : ℕ) (rec : Record) → Fits64 j → RecordFits rec → AreLines (record_lines j rec)
+record_are_lines j (Accepted r) fj fits = (accepted_lacks j r fj fits, tt)
+record_are_lines j (Answered r lines) fj fits = (answered_lacks j r (length lines) fj fits.0 fits.1, fits.2)
+
+client_are_lines : (j : ℕ) (recs : List Record) → RecordsFit recs → j + length recs ≤ 2 ^ 64 → AreLines (client_lines j recs)
+client_are_lines j [] fits small = tt
+client_are_lines j (rec ∷ recs) fits small = are_lines-append (record_lines j rec) (client_lines (j + 1) recs) (record_are_lines j rec (omega (arith, small)) fits.0) (client_are_lines (j + 1) recs fits.1 (omega (arith, small)))
+
+clients_are_lines : (i : ℕ) (rs : List (List Record)) → AllRecordsFit rs → i + length rs ≤ 2 ^ 64 → AreLines (clients_lines i rs)
+clients_are_lines i [] fits small = tt
+clients_are_lines i (recs ∷ rs) fits small =
+    are_lines-append ((codes "client " ++ decimal i) ∷ client_lines 1 recs) (clients_lines (i + 1) rs)
+    (lacks-append 10 (codes "client ") (decimal i) (lacks_by 10 (codes "client ") refl) (decimal-lacks 10 i (omega arith) (omega (arith, small))), client_are_lines 1 recs fits.0 (omega (arith, fits.1)))
+    (clients_are_lines (i + 1) rs fits.2 (omega (arith, small)))
+
+accepted-right : (j r : ℕ) → decimal j ++ codes " accepted " ++ decimal r ≡ decimal j ++ (codes " accepted " ++ decimal r)
+accepted-right j r = append_assoc (decimal j) (codes " accepted ") (decimal r)
+
+answered-right : (j r n : ℕ) → decimal j ++ codes " answer " ++ decimal r ++ codes " " ++ decimal n ≡ decimal j ++ (codes " answer " ++ (decimal r ++ 32 ∷ decimal n))
+answered-right j r n = simp append_assoc
+
+-- the two kinds of record differ in their third letter
+not_alike : (j r q n : ℕ) → decimal j ++ codes " accepted " ++ decimal r ≡ decimal j ++ codes " answer " ++ decimal q ++ codes " " ++ decimal n → ⊥
+not_alike j r q n e =
+    let tails = front_gone (decimal j) _ _ (sym (accepted-right j r) ∙ e ∙ answered-right j q n) in
+    let third : 99 ≡ 110 = ap (λ (l : List ℕ). get_or l 2 0) tails in
+    absurd (omega (arith, third))
+
+-- the lines of two records that go on alike
+record_read : (j : ℕ) (x y : Record) (ls ms : List (List ℕ)) → RecordFits x → RecordFits y → record_lines j x ++ ls ≡ record_lines j y ++ ms → (x ≡ y) × (ls ≡ ms)
+record_read j (Accepted r) (Accepted q) ls ms fx fy e =
+    let heads : decimal j ++ codes " accepted " ++ decimal r ≡ decimal j ++ codes " accepted " ++ decimal q = cc (e) in
+    let same = same_number r q fx fy (front_gone (decimal j ++ codes " accepted ") _ _ heads) in
+    ((λ k. Accepted (same k)), cc (e))
+record_read j (Accepted r) (Answered q lines) ls ms fx fy e =
+    let heads : decimal j ++ codes " accepted " ++ decimal r ≡ decimal j ++ codes " answer " ++ decimal q ++ codes " " ++ decimal (length lines) = cc (e) in
+    absurd (not_alike j r q (length lines) heads)
+record_read j (Answered r lines) (Accepted q) ls ms fx fy e =
+    let heads : decimal j ++ codes " accepted " ++ decimal q ≡ decimal j ++ codes " answer " ++ decimal r ++ codes " " ++ decimal (length lines) = cc (e) in
+    absurd (not_alike j q r (length lines) heads)
+record_read j (Answered r lines) (Answered q others) ls ms fx fy e =
+    let heads : decimal j ++ codes " answer " ++ decimal r ++ codes " " ++ decimal (length lines) ≡ decimal j ++ codes " answer " ++ decimal q ++ codes " " ++ decimal (length others) = cc (e) in
+    let rests : lines ++ ls ≡ others ++ ms = cc (e) in
+    let tails = front_gone (codes " answer ") _ _ (front_gone (decimal j) _ _ (sym (answered-right j r (length lines)) ∙ heads ∙ answered-right j q (length others))) in
+    let p = parted 32 (decimal r) (decimal q) (decimal (length lines)) (decimal (length others)) (decimal-lacks 32 r (omega arith) fx.0) (decimal-lacks 32 q (omega arith) fy.0) tails in
+    let revision = same_number r q fx.0 fy.0 p.0 in
+    let size = same_number (length lines) (length others) fx.1 fy.1 p.1 in
+    let both = fronts_same lines others ls ms size rests in
+    ((λ k. Answered (revision k) (both.0 k)), both.1)
+
+-- a record's line begins with a digit, and that of a client does not
+digit_first : (ds xs ys : List ℕ) → AreDigits ds → 0 < length ds → codes "client " ++ xs ≡ ds ++ ys → ⊥
+digit_first [] xs ys h some e = absurd (omega (arith, some))
+digit_first (d ∷ ds) xs ys h some e = let first : 99 ≡ d = cc (e) in absurd (omega (arith, first, h.1))
+
+-- the first line of a record, and the other ones
+head_of : (j : ℕ) (rec : Record) → (h : List ℕ) × (t : List (List ℕ)) × (record_lines j rec ≡ (decimal j ++ h) ∷ t)
+head_of j (Accepted r) = (codes " accepted " ++ decimal r, [], ap (λ (l : List ℕ). l ∷ []) (accepted-right j r))
+head_of j (Answered r lines) = (codes " answer " ++ (decimal r ++ 32 ∷ decimal (length lines)), lines, ap (λ (l : List ℕ). l ∷ lines) (answered-right j r (length lines)))
+
+no_client : (i j : ℕ) (more : List (List Record)) (rec : Record) (ls : List (List ℕ)) → Fits64 j → clients_lines i more ≡ record_lines j rec ++ ls → ⊥
+no_client i j [] rec ls fj e =
+    let h = head_of j rec in
+    let same : ◌≡◌ {A = List (List ℕ)} [] ((decimal j ++ h.0) ∷ (h.1 ++ ls)) = e ∙ ap (λ (l : List (List ℕ)). l ++ ls) h.2 in
+    absurd (omega (arith, ap length same))
+no_client i j (recs ∷ more) rec ls fj e =
+    let h = head_of j rec in
+    let same = e ∙ ap (λ (l : List (List ℕ)). l ++ ls) h.2 in
+    let first : codes "client " ++ decimal i ≡ decimal j ++ h.0 = cc (same) in
+    digit_first (decimal j) (decimal i) h.0 (digits-decimal j fj) (decimal_nonempty j fj) first
+
+records_read : (j i : ℕ) (xs ys : List Record) (more others : List (List Record)) → RecordsFit xs → RecordsFit ys → j + length xs ≤ 2 ^ 64 → j + length ys ≤ 2 ^ 64
+    → client_lines j xs ++ clients_lines i more ≡ client_lines j ys ++ clients_lines i others → (xs ≡ ys) × (clients_lines i more ≡ clients_lines i others)
+records_read j i [] [] more others hx hy sx sy e = (refl, e)
+records_read j i [] (y ∷ ys) more others hx hy sx sy e = absurd (no_client i j more y _ (omega (arith, sy)) (e ∙ append_assoc (record_lines j y) (client_lines (j + 1) ys) (clients_lines i others)))
+records_read j i (x ∷ xs) [] more others hx hy sx sy e = absurd (no_client i j others x _ (omega (arith, sx)) (sym e ∙ append_assoc (record_lines j x) (client_lines (j + 1) xs) (clients_lines i more)))
+records_read j i (x ∷ xs) (y ∷ ys) more others hx hy sx sy e =
+    let whole = sym (append_assoc (record_lines j x) (client_lines (j + 1) xs) (clients_lines i more)) ∙ e ∙ append_assoc (record_lines j y) (client_lines (j + 1) ys) (clients_lines i others) in
+    let p = record_read j x y _ _ hx.0 hy.0 whole in
+    let q = records_read (j + 1) i xs ys more others hx.1 hy.1 (omega (arith, sx)) (omega (arith, sy)) p.1 in
+    ((λ k. p.0 k ∷ q.0 k), q.1)
+
+clients_read : (i : ℕ) (rs ss : List (List Record)) → AllRecordsFit rs → AllRecordsFit ss → clients_lines i rs ≡ clients_lines i ss → rs ≡ ss
+clients_read i [] [] hr hs e = refl
+clients_read i [] (s ∷ ss) hr hs e = absurd (omega (arith, ap length e))
+clients_read i (r ∷ rs) [] hr hs e = absurd (omega (arith, ap length e))
+clients_read i (r ∷ rs) (s ∷ ss) hr hs e =
+    let rest : client_lines 1 r ++ clients_lines (i + 1) rs ≡ client_lines 1 s ++ clients_lines (i + 1) ss = cc (e) in
+    let p = records_read 1 (i + 1) r s rs ss hr.0 hs.0 (omega (arith, hr.1)) (omega (arith, hs.1)) rest in
+    let q = clients_read (i + 1) rs ss hr.2 hs.2 p.1 in
+    (λ k. p.0 k ∷ q k)
+
+told_read : (es : List Entry) (rs ss : List (List Record)) → AllRecordsFit rs → AllRecordsFit ss → Fits64 (length rs) → Fits64 (length ss) → report es rs ≡ report es ss → rs ≡ ss
+told_read es rs ss hr hs fr fs e =
+    let texts = front_gone (text_of_lines (entry_lines 1 es)) _ _ (front_gone (ended (codes "history " ++ decimal (length es))) _ _ (sym (report-parts es rs) ∙ e ∙ report-parts es ss)) in
+    clients_read 1 rs ss hr hs (lines_read (clients_lines 1 rs) (clients_lines 1 ss) (clients_are_lines 1 rs hr (omega (arith, fr))) (clients_are_lines 1 ss hs (omega (arith, fs))) texts)
+
+pub reports_read_back : IsReadBack
+reports_read_back = record { history = λ es fs rs ss. history_read es fs rs ss; told = told_read }

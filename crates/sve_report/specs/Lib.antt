@@ -1,0 +1,4 @@
+pub mod Cutting
+pub mod Lines
+pub mod ReadBack
+pub mod Reports

@@ -1,0 +1,111 @@
+//! The report of a run.
+ghost use Rattle.std.specs.Prelude.{◌≡◌, ◌++◌, ◌∷◌, [], IfOk, OnOk, codes, decimal};
+ghost use Rattle.sve_report.specs.Lines.{ended, text_of_lines};
+ghost use Rattle.sve_report.specs.ReadBack.{IsReadBack};
+ghost use Rattle.sve_report.specs.Reports.{report, entry_line, entry_lines, record_lines, client_lines, clients_lines};
+
+use crate::entry::Entry;
+use crate::record::Record;
+use itoa::Buffer;
+use std::alloc::Global;
+use sve_bytes::{List, NoMemory};
+
+/// The report of a history and of the records of each client, client 1 first.
+pub fn report_text(
+    alloc: Global,
+    entries: &[Entry],
+    records: &[List<Record>],
+) -> Result<Vec<u8>, NoMemory>
+    ensures { IfOk result (λ text. text.items ≡ report entries.now records.now) }
+{
+    let mut text = Vec::new(alloc);
+    add_words(&mut text, b"history ")?;
+    add_number(&mut text, entries.len() as u64)?;
+    add_words(&mut text, b"\n")?;
+    add_entries(&mut text, entries)?;
+    add_clients(&mut text, records)?;
+    Ok(text)
+}
+
+fn add_words(text: &mut Vec<u8>, words: &[u8]) -> Result<(), NoMemory>
+    ensures { OnOk result (text.new.items ≡ text.old.items ++ words.now) }
+{
+    text.extend_from_slice(words)
+}
+
+fn add_number(text: &mut Vec<u8>, n: u64) -> Result<(), NoMemory>
+    ensures { OnOk result (text.new.items ≡ text.old.items ++ decimal n) }
+{
+    text.extend_from_slice(Buffer::new().format(n).as_bytes())
+}
+
+/// `<r> <client> <command>` for each entry, r counted from 1.
+fn add_entries(text: &mut Vec<u8>, entries: &[Entry]) -> Result<(), NoMemory>
+    ensures { OnOk result (text.new.items ≡ text.old.items ++ text_of_lines (entry_lines 1 entries.now)) }
+{
+    for (i, entry) in entries.iter().enumerate() {
+        add_entry(text, i as u64 + 1, entry)?;
+    }
+    Ok(())
+}
+
+fn add_entry(text: &mut Vec<u8>, r: u64, entry: &Entry) -> Result<(), NoMemory>
+    ensures { OnOk result (text.new.items ≡ text.old.items ++ ended (entry_line r entry.now)) }
+{
+    add_number(text, r)?;
+    add_words(text, b" ")?;
+    add_number(text, entry.client)?;
+    add_words(text, b" ")?;
+    add_number(text, entry.command)?;
+    add_words(text, b"\n")
+}
+
+/// `client <i>` and its records for each client, i counted from 1.
+fn add_clients(text: &mut Vec<u8>, records: &[List<Record>]) -> Result<(), NoMemory>
+    ensures { OnOk result (text.new.items ≡ text.old.items ++ text_of_lines (clients_lines 1 records.now)) }
+{
+    for (i, client) in records.iter().enumerate() {
+        add_words(text, b"client ")?;
+        add_number(text, i as u64 + 1)?;
+        add_words(text, b"\n")?;
+        add_records(text, client.items())?;
+    }
+    Ok(())
+}
+
+fn add_records(text: &mut Vec<u8>, records: &[Record]) -> Result<(), NoMemory>
+    ensures { OnOk result (text.new.items ≡ text.old.items ++ text_of_lines (client_lines 1 records.now)) }
+{
+    for (j, outcome) in records.iter().enumerate() {
+        add_record(text, j as u64 + 1, outcome)?;
+    }
+    Ok(())
+}
+
+/// `<j> accepted <r>`, or `<j> answer <r> <k>` and the k lines.
+fn add_record(text: &mut Vec<u8>, j: u64, outcome: &Record) -> Result<(), NoMemory>
+    ensures { OnOk result (text.new.items ≡ text.old.items ++ text_of_lines (record_lines j outcome.now)) }
+{
+    add_number(text, j)?;
+    match outcome {
+        Record::Accepted { r } => {
+            add_words(text, b" accepted ")?;
+            add_number(text, *r)?;
+            add_words(text, b"\n")
+        }
+        Record::Answered { r, lines } => {
+            add_words(text, b" answer ")?;
+            add_number(text, *r)?;
+            add_words(text, b" ")?;
+            add_number(text, lines.count() as u64)?;
+            add_words(text, b"\n")?;
+            add_words(text, lines.text())
+        }
+    }
+}
+
+/// The law of reports: the history is read off the bytes of a report, and so are the records where none of their lines
+/// holds a line feed.
+pub fn reports_are_read_back()
+    ensures { IsReadBack }
+{}

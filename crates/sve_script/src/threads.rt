@@ -1,0 +1,9 @@
+use crate::commands::{Command, Script};
+
+fn may_be_shared<T: Send + Sync>(_value: &T) {}
+
+/// A session and its commands may go to other threads and be read by several at once. It does nothing.
+pub fn may_cross_threads(script: &Script, command: &Command) {
+    may_be_shared(script);
+    may_be_shared(command);
+}

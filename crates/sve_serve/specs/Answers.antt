@@ -1,0 +1,55 @@
+-- What a query is answered, as a function of the files of one revision (own).
+use Rattle.std.specs.Prelude.{ℕ, ◌&&◌, is_some, List, [], ◌∷◌, ◌++◌, Option, Some, None, length, nat_lt, if◌then◌else◌, codes, decimal}
+use Rattle.sve_bytes.specs.FileName.{is_file_name_of}
+use Rattle.sve_text.specs.Rows.{Row, text_of, stamp_of}
+use Rattle.sve_text.specs.Files.{FilesValue}
+use Rattle.sve_script.specs.declared.commands.Query.{Query}
+use Rattle.sve_script.specs.declared.commands.Query.TheVariants.{File, Expand}
+use Rattle.sve_serve.specs.Expansions.{expanded_text}
+use Rattle.sve_report.specs.Lines.{barred}
+
+-- a query has its lines, or its cost is above the budget
+pub data Outcome : Type 0 where
+  Done : List (List ℕ) → Outcome
+  Spent : Outcome
+
+-- the cost of a query at these files, in steps of elaboration
+abbrev pub cost_of : FilesValue → Query → ℕ
+cost_of files (File name) = 0
+cost_of files (Expand name) = 0
+
+-- the line for a thing that is not there
+abbrev pub none : List (List ℕ)
+none = codes "none" ∷ []
+
+-- `stamp <s> bytes <n>`
+abbrev pub text_head : ℕ → ℕ → List ℕ
+text_head stamp size = codes "stamp " ++ decimal stamp ++ codes " bytes " ++ decimal size
+
+-- the head, and each line of the text after a bar
+abbrev pub text_lines : ℕ → Option (List ℕ) → List (List ℕ)
+text_lines stamp None = none
+text_lines stamp (Some text) = text_head stamp (length text) ∷ barred text
+
+-- the text of the file of this name; a name that no file may have is not there
+abbrev pub file_lines : List Row → List ℕ → List (List ℕ)
+file_lines rows name = if is_file_name_of name then text_lines (stamp_of rows name) (text_of rows name) else none
+
+-- `bytes <n>`
+abbrev pub expanded_head : ℕ → List ℕ
+expanded_head size = codes "bytes " ++ decimal size
+
+abbrev pub expanded_lines : List ℕ → List (List ℕ)
+expanded_lines text = expanded_head (length text) ∷ barred text
+
+-- the expanded text of the file of this name, where the file is there
+abbrev pub expand_lines : List Row → List ℕ → List (List ℕ)
+expand_lines rows name =
+    if is_file_name_of name && is_some (text_of rows name) then expanded_lines (expanded_text rows name) else none
+
+abbrev pub lines_of : FilesValue → Query → List (List ℕ)
+lines_of files (File name) = file_lines files.rows name
+lines_of files (Expand name) = expand_lines files.rows name
+
+abbrev pub answer : FilesValue → Query → ℕ → Outcome
+answer files query budget = if nat_lt budget (cost_of files query) then Spent else Done (lines_of files query)

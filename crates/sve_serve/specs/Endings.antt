@@ -1,0 +1,67 @@
+-- How one call of the program went: what it read, wrote and counted, whether or not source and sink tell their bytes.
+use Rattle.std.specs.Prelude.{ℕ, ◌≡◌, ◌+◌, ◌≤◌, ◌⊎◌, List, Option, length, take}
+use Rattle.sve_io.specs.Faults.{HasRisen}
+use Rattle.sve_io.specs.Moves.{Loses, Gains}
+use Rattle.sve_serve.specs.declared.status.Status.{Status}
+use Rattle.sve_serve.specs.declared.status.Status.TheVariants.{Done, Usage, BadSession, ReadFault, WriteFault, TooLarge, NoMemory}
+use Rattle.sve_serve.specs.Runs.{max_session, usage_line, too_large_line, AreLeft, IsOutputForSession}
+use Rattle.sve_serve.specs.Words.{run, usage, spoken}
+
+-- A source or a sink at one moment: the bytes that it tells, and its count of faults.
+pub record Seen : Type 0 where
+  pub bytes : Option (List ℕ)
+  pub faults : ℕ
+
+-- at most so many bytes were read
+abbrev pub IsReadUpTo : Seen → Seen → ℕ → Type 0
+IsReadUpTo before after most = (moved : List ℕ) × (length moved ≤ most) × Loses before.bytes after.bytes moved
+
+-- one byte more was read than a session may have
+abbrev pub IsReadPast : Seen → Seen → Type 0
+IsReadPast before after = (moved : List ℕ) × (length moved ≡ max_session + 1) × Loses before.bytes after.bytes moved
+
+-- the source gave these bytes, which are not too many, and has no more
+pub record IsReadWhole (before after : Seen) (bytes : List ℕ) : Type 0 where
+  pub in_limit : length bytes ≤ max_session
+  pub read : Loses before.bytes after.bytes bytes
+  pub all : AreLeft before.bytes bytes
+
+-- a session was read whole, and the text is the output for it
+abbrev pub HasReadSession : Seen → Seen → Status → List ℕ → Type 0
+HasReadSession before after status text = (bytes : List ℕ) × IsReadWhole before after bytes × IsOutputForSession bytes status text
+
+-- The output for what was read, before the run ends with this status; `unread` says that it left the source alone.
+abbrev pub IsOutputForRead : List (List ℕ) → Type 0 → Seen → Seen → Status → List ℕ → Type 0
+IsOutputForRead words unread before after Usage text = (spoken words ≡ usage) × unread × (text ≡ usage_line)
+IsOutputForRead words unread before after TooLarge text = (spoken words ≡ run) × IsReadPast before after × (text ≡ too_large_line)
+IsOutputForRead words unread before after Done text = (spoken words ≡ run) × HasReadSession before after Done text
+IsOutputForRead words unread before after BadSession text = (spoken words ≡ run) × HasReadSession before after BadSession text
+IsOutputForRead words unread before after ReadFault text = ⊥
+IsOutputForRead words unread before after WriteFault text = ⊥
+IsOutputForRead words unread before after NoMemory text = ⊥
+
+-- the sink has the whole text
+abbrev pub IsWritten : Seen → Seen → List ℕ → Type 0
+IsWritten before after text = Gains before.bytes after.bytes text × (after.faults ≡ before.faults)
+
+-- the sink failed within the text
+abbrev pub IsCutShort : Seen → Seen → List ℕ → Type 0
+IsCutShort before after text = ((count : ℕ) × (count ≤ length text) × Gains before.bytes after.bytes (take count text)) × HasRisen before.faults after.faults
+
+-- the run ends with this status where the output is written, and else the sink failed within it
+abbrev pub IsWrittenOrCutShort : Seen → Seen → List ℕ → Status → Status → Type 0
+IsWrittenOrCutShort before after text status result = ((result ≡ status) × IsWritten before after text) ⊎ ((result ≡ WriteFault) × IsCutShort before after text)
+
+-- the output before this status is written
+abbrev pub HasWrittenOutput : List (List ℕ) → Type 0 → Seen → Seen → Seen → Seen → Status → Type 0
+HasWrittenOutput words unread source source' sink sink' status = (text : List ℕ) × IsOutputForRead words unread source source' status text × IsWritten sink sink' text
+
+-- How the call went where it ends with this status; `unread` and `unwritten` say that it left the source or the sink alone.
+abbrev pub Ends : List (List ℕ) → Type 0 → Type 0 → Seen → Seen → Seen → Seen → Status → Type 0
+Ends words unread unwritten source source' sink sink' Done = HasWrittenOutput words unread source source' sink sink' Done
+Ends words unread unwritten source source' sink sink' Usage = HasWrittenOutput words unread source source' sink sink' Usage
+Ends words unread unwritten source source' sink sink' BadSession = HasWrittenOutput words unread source source' sink sink' BadSession
+Ends words unread unwritten source source' sink sink' TooLarge = HasWrittenOutput words unread source source' sink sink' TooLarge
+Ends words unread unwritten source source' sink sink' ReadFault = (spoken words ≡ run) × unwritten × IsReadUpTo source source' max_session × HasRisen source.faults source'.faults
+Ends words unread unwritten source source' sink sink' WriteFault = (status : Status) × (text : List ℕ) × IsOutputForRead words unread source source' status text × IsCutShort sink sink' text
+Ends words unread unwritten source source' sink sink' NoMemory = (spoken words ≡ run) × unwritten × IsReadUpTo source source' (max_session + 1)

@@ -1,0 +1,10 @@
+pub mod Answers
+pub mod Endings
+pub mod ExitCodes
+pub mod Expansions
+pub mod Histories
+pub mod Honest
+pub mod Revisions
+pub mod Runs
+pub mod Serial
+pub mod Words

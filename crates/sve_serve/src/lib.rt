@@ -1,0 +1,14 @@
+//! The whole program over any source and sink: a session is read, run and answered, and its report is written.
+#![tactic(auto)]
+
+mod answering;
+mod file_texts;
+mod history;
+mod running;
+mod serving;
+mod status;
+mod transfer;
+mod words;
+
+pub use serving::serve;
+pub use status::{Status, complaint, exit_code};

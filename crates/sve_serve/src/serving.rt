@@ -1,0 +1,171 @@
+//! The whole program over any source and sink.
+ghost use Rattle.std.specs.Prelude.{◌≡◌, ℕ, ◌+◌, ◌<◌, ◌≤◌, ◌⊎◌, List, [], Some, IfOk, IfSome, length, map, take, string_bytes};
+ghost use Rattle.sve_io.specs.Faults.{HasRisen};
+ghost use Rattle.sve_io.specs.Moves.{Loses, Gains};
+ghost use Rattle.sve_script.specs.declared.commands.Script.{Script};
+ghost use Rattle.sve_script.specs.Session.{IsSession, IsLater, IsNotJson};
+ghost use Rattle.sve_serve.specs.Endings.{Ends, IsWrittenOrCutShort};
+ghost use Rattle.sve_serve.specs.Runs.{max_session, usage_line, too_large_line, AreLeft, IsReportOf, IsRunOver, WritesItsOutput, IsOutputFor, IsOutputForSession};
+ghost use Rattle.sve_serve.specs.Words.{run, usage, spoken};
+
+use crate::running::run;
+use crate::status::Status;
+use crate::transfer::{ReadError, read_session, write_text};
+use crate::words::is_run;
+use std::alloc::{AllocError, Global};
+use std::sync::Wait;
+use std::thread::Threads;
+use sve_bytes::NoMemory;
+use sve_io::{Sink, Source};
+use sve_report::report_text;
+use sve_script::{BadSession, script};
+
+const USAGE_LINE: &[u8] = b"usage: svserve run\n";
+
+const NOT_JSON_LINE: &[u8] = b"bad session: not JSON\n";
+
+const LATER_LINE: &[u8] = b"bad session: later\n";
+
+const TOO_LARGE_LINE: &[u8] = b"bad session: more than 16777216 bytes\n";
+
+/// What is written for a session that was read, and the status with which the run then ends.
+#[derive(Drop)]
+struct Reply {
+    status: Status,
+    text: Vec<u8>,
+}
+
+/// Does all that the program does: reads the words, then for `run` the session from the source to its end, runs it,
+/// and writes the report to the sink. A session has at most 16,777,216 bytes.
+///
+/// It answers `Usage` where the words are not the one word `run`; the source is then not read. It answers `ReadFault`
+/// and `WriteFault` where the source or the sink failed, `TooLarge` where there are more bytes than a session may have,
+/// `BadSession` where they are no session, and `NoMemory` where memory is wanting. Nothing is written before a
+/// `ReadFault` or a `NoMemory`.
+pub fn serve<R: Threads + Wait + Sync, S: Source, K: Sink>(
+    rt: &R,
+    alloc: Global,
+    words: &[String],
+    source: &mut S,
+    sink: &mut K,
+) -> Status
+    // The bytes of the source are a session, and the sink gained the report of a legal history and of records that are
+    // honest for it.
+    ensures headline { result ≡ Status.Done
+        → (bytes : List ℕ) × (text : List ℕ) × AreLeft (S.left source.old) bytes × IsReportOf bytes text × Gains (K.held sink.old) (K.held sink.new) text }
+
+    // Where an output is written whole, words and bytes are those for which it is written, and the sink gained it.
+    ensures said { WritesItsOutput result → (bytes : List ℕ) × (text : List ℕ) × AreLeft (S.left source.old) bytes
+        × IsOutputFor (map string_bytes words.now) bytes result text × Gains (K.held sink.old) (K.held sink.new) text }
+    ensures read_to_end { (result ≡ Status.Done) ⊎ (result ≡ Status.BadSession) → IfSome (S.left source.new) (λ left. left ≡ []) }
+
+    // Words that ask for nothing leave the source alone.
+    ensures usage_only { result ≡ Status.Usage
+        → (spoken (map string_bytes words.now) ≡ usage) × Gains (K.held sink.old) (K.held sink.new) usage_line }
+    ensures usage_where { spoken (map string_bytes words.now) ≡ usage
+        → (source.new ≡ source.old) × ((result ≡ Status.Usage) ⊎ (result ≡ Status.WriteFault)) }
+
+    // A fault has its cause in a count that rose, or stands at its last value.
+    ensures read_fault { result ≡ Status.ReadFault → HasRisen (S.faults source.old) (S.faults source.new) × (sink.new ≡ sink.old) }
+    ensures write_fault { result ≡ Status.WriteFault → HasRisen (K.faults sink.old) (K.faults sink.new) }
+
+    // Where the sink failed, it gained a prefix of the output for these words and bytes.
+    ensures cut_short { result ≡ Status.WriteFault → (bytes : List ℕ) × (status : Status) × (text : List ℕ) × (count : ℕ)
+        × AreLeft (S.left source.old) bytes × IsOutputFor (map string_bytes words.now) bytes status text
+        × (count ≤ length text) × Gains (K.held sink.old) (K.held sink.new) (take count text) }
+
+    // No more than one byte above the limit is read, and that one leads to TooLarge, a fault of the sink or want of memory.
+    ensures read { (moved : List ℕ) × (length moved ≤ max_session + 1) × Loses (S.left source.old) (S.left source.new) moved
+        × (max_session < length moved → (result ≡ Status.TooLarge) ⊎ (result ≡ Status.WriteFault) ⊎ (result ≡ Status.NoMemory)) }
+    ensures too_large { result ≡ Status.TooLarge
+        → (moved : List ℕ) × (length moved ≡ max_session + 1) × Loses (S.left source.old) (S.left source.new) moved
+        × Gains (K.held sink.old) (K.held sink.new) too_large_line }
+    ensures no_memory { result ≡ Status.NoMemory → (spoken (map string_bytes words.now) ≡ run) × (sink.new ≡ sink.old) }
+
+    // Where neither end fails, a session is answered, other bytes are refused, or memory is wanting.
+    ensures answered { (bytes : List ℕ) (script : Script) → IsRunOver (map string_bytes words.now) (S.left source.old) bytes
+        → length bytes ≤ max_session → IsSession bytes script
+        → ¬ HasRisen (S.faults source.old) (S.faults source.new) → ¬ HasRisen (K.faults sink.old) (K.faults sink.new)
+        → (result ≡ Status.Done) ⊎ (result ≡ Status.NoMemory) }
+    ensures refused { (bytes : List ℕ) → IsRunOver (map string_bytes words.now) (S.left source.old) bytes
+        → length bytes ≤ max_session → IsNotJson bytes ⊎ IsLater bytes
+        → ¬ HasRisen (S.faults source.old) (S.faults source.new) → ¬ HasRisen (K.faults sink.old) (K.faults sink.new)
+        → (result ≡ Status.BadSession) ⊎ (result ≡ Status.NoMemory) }
+    ensures too_many { (bytes : List ℕ) → IsRunOver (map string_bytes words.now) (S.left source.old) bytes
+        → max_session < length bytes
+        → ¬ HasRisen (S.faults source.old) (S.faults source.new) → ¬ HasRisen (K.faults sink.old) (K.faults sink.new)
+        → (result ≡ Status.TooLarge) ⊎ (result ≡ Status.NoMemory) }
+{
+    // One client needs no thread.
+    let _ = rt;
+    served(alloc, words, source, sink)
+}
+
+/// The same, with one clause that goes by the status.
+fn served<S: Source, K: Sink>(
+    alloc: Global,
+    words: &[String],
+    source: &mut S,
+    sink: &mut K,
+) -> Status
+    ensures { Ends (map string_bytes words.now) (source.new ≡ source.old) (sink.new ≡ sink.old)
+        (record { bytes = S.left source.old; faults = S.faults source.old })
+        (record { bytes = S.left source.new; faults = S.faults source.new })
+        (record { bytes = K.held sink.old; faults = K.faults sink.old })
+        (record { bytes = K.held sink.new; faults = K.faults sink.new }) result }
+{
+    if !is_run(words) {
+        return say(sink, USAGE_LINE, Status::Usage);
+    }
+    let bytes = match read_session(alloc, source) {
+        Ok(bytes) => bytes,
+        Err(ReadError::TooLarge) => return say(sink, TOO_LARGE_LINE, Status::TooLarge),
+        Err(ReadError::Failed) => return Status::ReadFault,
+        Err(ReadError::NoMemory) => return Status::NoMemory,
+    };
+    match reply_to(alloc, bytes) {
+        Ok(reply) => say(sink, &reply.text, reply.status),
+        Err(AllocError) => Status::NoMemory,
+    }
+}
+
+/// Writes the text before the run ends with this status.
+fn say<K: Sink>(sink: &mut K, text: &[u8], status: Status) -> Status
+    ensures { IsWrittenOrCutShort (record { bytes = K.held sink.old; faults = K.faults sink.old })
+        (record { bytes = K.held sink.new; faults = K.faults sink.new }) text.now status result }
+{
+    match write_text(sink, text) {
+        Ok(()) => status,
+        Err(_) => Status::WriteFault,
+    }
+}
+
+/// The report of the session that these bytes are, or the line for bytes that are none.
+fn reply_to(alloc: Global, bytes: Vec<u8>) -> Result<Reply, NoMemory>
+    ensures { IfOk result (λ reply. IsOutputForSession bytes.items reply.status reply.text.items) }
+{
+    let read = script(alloc, &bytes);
+    // The session has its own texts, so its bytes need not stay.
+    drop(bytes);
+    match read {
+        Ok(script) => {
+            let ran = run(alloc, script)?;
+            Ok(Reply {
+                status: Status::Done,
+                text: report_text(alloc, ran.history.entries(), ran.records.items())?,
+            })
+        }
+        Err(BadSession::NotJson) => refusal(alloc, NOT_JSON_LINE),
+        Err(BadSession::Later) => refusal(alloc, LATER_LINE),
+        Err(BadSession::NoMemory) => Err(AllocError),
+    }
+}
+
+fn refusal(alloc: Global, line: &[u8]) -> Result<Reply, NoMemory>
+    ensures { IfOk result (λ reply. (reply.status ≡ Status.BadSession) × (reply.text.items ≡ line.now)) }
+{
+    Ok(Reply {
+        status: Status::BadSession,
+        text: Vec::from_slice(alloc, line)?,
+    })
+}
