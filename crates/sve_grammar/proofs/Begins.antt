@@ -1,18 +1,12 @@
 -- What the seven symbols begin with is what their rules begin with.
-use Rattle.std.proofs.Common.{◌≡◌, ℕ, zero, suc, ◌+◌, ◌-◌, ◌<◌, ◌≤◌, Bool, true, false, cond, List, [], ◌∷◌, ◌++◌, length, Option, Some, None, Result, Ok, Err, refl, sym as flip, ap, subst, ◌∙◌ as ◌∘◌, arith, inl, inr}
+use Rattle.std.proofs.Common.{◌≡◌, Bool, true, false, cond, List, [], ◌∷◌, ◌++◌, Option, None, refl, sym as flip}
 use Rattle.std.specs.Prelude.{◌||◌, ◌&&◌}
 use Rattle.sve_token.specs.declared.kind.Kind.{Kind}
-use Rattle.sve_token.specs.declared.token.Token.{Token}
 use Rattle.sve_grammar.specs.declared.symbol.Symbol.{Symbol}
 use Rattle.sve_grammar.specs.declared.symbol.Symbol.TheVariants.{Expression, Conditional, Unary, DataType, LeftSide, Statement, Item}
-use Rattle.sve_grammar.specs.declared.stop.Stop.{Stop}
-use Rattle.sve_grammar.specs.declared.stop.Stop.TheVariants.{At, NoMemory}
-use Rattle.sve_grammar.specs.Token.{kind_at, has_kind}
+use Rattle.sve_grammar.specs.Token.{has_kind}
 use Rattle.sve_grammar.specs.Rule.{Rule, tok, sym, ◌∙◌, ◌∣◌, nothing, many, starts, empties, opens, is_among, firsts}
 use Rattle.sve_grammar.specs.Grammar.{rule}
-use Rattle.sve_grammar.specs.Machine.{Halt}
-use Rattle.sve_grammar.specs.Reading.{Tree, leaf, none, pair, left, right, turn, ended, joined, Answer, ◌>>=◌, halt, with_left, with_right, both, turns, repeat, token, reads, symbol}
-use Rattle.sve_grammar.specs.Gives.{Fails}
 use Rattle.sve_grammar.specs.Expressions.{expression, conditional, unary, unary_operator, primary, decimal, parenthesized, pattern, concatenation, signing, typed_primary, integer_type, integer_atom_type, integer_vector_type, system_call, scoped_name, operations, operation}
 use Rattle.sve_grammar.specs.Types.{data_type, atom_type, vector_type, enumeration, structure, net_type, parameter_keyword}
 use Rattle.sve_grammar.specs.Declarations.{import_declaration, parameter_declaration, type_declaration, net_declaration, variable_declaration, data_declaration}
@@ -68,3 +62,14 @@ rule_heads Item = refl
 pub opens_is : (s : Symbol) (k : Option Kind) → opens s k ≡ starts (rule s) k
 unfolding opens
 opens_is s k = flip (rw (← rule_heads s) (starts_heads (rule s) k))
+
+-- no symbol begins behind the last token
+pub opens_none : (s : Symbol) → opens s None ≡ false
+unfolding opens
+opens_none Expression = refl
+opens_none Conditional = refl
+opens_none Unary = refl
+opens_none DataType = refl
+opens_none LeftSide = refl
+opens_none Statement = refl
+opens_none Item = refl

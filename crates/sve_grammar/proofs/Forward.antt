@@ -1,33 +1,22 @@
 -- Reading goes forward: an answer never ends in front of its place, and ends behind it where the rule begins there.
-use Rattle.std.proofs.Common.{◌≡◌, ℕ, zero, suc, ◌+◌, ◌-◌, ◌<◌, ◌≤◌, Bool, true, false, cond, List, [], ◌∷◌, ◌++◌, length, Option, Some, None, Result, Ok, Err, refl, sym as flip, ap, subst, ◌∙◌ as ◌∘◌, arith, inl, inr}
+use Rattle.std.proofs.Common.{◌≡◌, ℕ, zero, suc, ◌+◌, ◌-◌, ◌<◌, ◌≤◌, Bool, true, false, cond, List, length, Option, None, Ok, Err, refl, sym as flip, ap, subst, ◌∙◌ as ◌∘◌, arith, inl, inr}
 use Rattle.std.specs.Prelude.{◌||◌, ◌&&◌}
 use Rattle.std.proofs.lemmas.Bool.{cases_lt}
 use Rattle.std.proofs.lemmas.Option.{slice_get_past}
 use Rattle.sve_token.specs.declared.kind.Kind.{Kind}
 use Rattle.sve_token.specs.declared.token.Token.{Token}
 use Rattle.sve_grammar.specs.declared.symbol.Symbol.{Symbol}
-use Rattle.sve_grammar.specs.declared.symbol.Symbol.TheVariants.{Expression, Conditional, Unary, DataType, LeftSide, Statement, Item}
-use Rattle.sve_grammar.specs.declared.stop.Stop.{Stop}
-use Rattle.sve_grammar.specs.declared.stop.Stop.TheVariants.{At, NoMemory}
 use Rattle.sve_grammar.specs.Token.{kind_at, has_kind}
 use Rattle.sve_grammar.specs.Rule.{Rule, tok, sym, ◌∙◌, ◌∣◌, nothing, many, starts, empties, opens}
 use Rattle.sve_grammar.specs.Grammar.{rule}
 use Rattle.sve_grammar.specs.Machine.{Halt}
-use Rattle.sve_grammar.specs.Reading.{Tree, leaf, none, pair, left, right, turn, ended, joined, Answer, ◌>>=◌, halt, with_left, with_right, both, turns, repeat, token, reads, symbol, at_depth}
-use Rattle.sve_grammar.specs.Gives.{Fails}
-use Rattle.sve_grammar.proofs.Begins.{opens_is}
+use Rattle.sve_grammar.specs.Reading.{Tree, leaf, pair, turn, ended, Answer, ◌>>=◌, halt, with_left, with_right, both, turns, repeat, token, reads, symbol}
+use Rattle.sve_grammar.proofs.Begins.{opens_is, opens_none}
 
 -- no rule begins behind the last token
 pub starts-none : (r : Rule) → starts r None ≡ false
-unfolding opens
 starts-none (tok k) = refl
-starts-none (sym Expression) = refl
-starts-none (sym Conditional) = refl
-starts-none (sym Unary) = refl
-starts-none (sym DataType) = refl
-starts-none (sym LeftSide) = refl
-starts-none (sym Statement) = refl
-starts-none (sym Item) = refl
+starts-none (sym s) = opens_none s
 starts-none (a ∙ b) = rw (starts-none a, starts-none b) (elim (empties a) as (λ x. (x && false) ≡ false) [ true ↦ refl | false ↦ refl ])
 starts-none (a ∣ b) = rw (starts-none a, starts-none b) refl
 starts-none nothing = refl

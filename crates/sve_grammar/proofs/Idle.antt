@@ -1,20 +1,15 @@
--- Where a rule does not begin, it takes no token.
-use Rattle.std.proofs.Common.{◌≡◌, ℕ, zero, suc, ◌+◌, ◌-◌, ◌<◌, ◌≤◌, Bool, true, false, cond, List, [], ◌∷◌, ◌++◌, length, Option, Some, None, Result, Ok, Err, refl, sym as flip, ap, subst, ◌∙◌ as ◌∘◌, arith, inl, inr}
-use Rattle.std.specs.Prelude.{◌||◌, ◌&&◌}
-use Rattle.std.proofs.lemmas.Bool.{cases_lt}
-use Rattle.std.proofs.lemmas.Option.{slice_get_past}
+-- What is read where a rule begins, and where it does not: there it takes no token, or stops.
+use Rattle.std.proofs.Common.{◌≡◌, ℕ, zero, suc, ◌-◌, Bool, true, false, cond, List, length, Option, Some, None, Ok, refl}
+use Rattle.std.specs.Prelude.{◌||◌, ◌&&◌, is_some}
 use Rattle.sve_token.specs.declared.kind.Kind.{Kind}
 use Rattle.sve_token.specs.declared.token.Token.{Token}
 use Rattle.sve_grammar.specs.declared.symbol.Symbol.{Symbol}
-use Rattle.sve_grammar.specs.declared.symbol.Symbol.TheVariants.{Expression, Conditional, Unary, DataType, LeftSide, Statement, Item}
 use Rattle.sve_grammar.specs.declared.stop.Stop.{Stop}
 use Rattle.sve_grammar.specs.declared.stop.Stop.TheVariants.{At, NoMemory}
-use Rattle.sve_grammar.specs.Token.{kind_at, has_kind}
+use Rattle.sve_grammar.specs.Token.{kind_at}
 use Rattle.sve_grammar.specs.Rule.{Rule, tok, sym, ◌∙◌, ◌∣◌, nothing, many, starts, empties, opens}
-use Rattle.sve_grammar.specs.Grammar.{rule}
-use Rattle.sve_grammar.specs.Machine.{Halt}
-use Rattle.sve_grammar.specs.Reading.{Tree, leaf, none, pair, left, right, turn, ended, joined, Answer, ◌>>=◌, halt, with_left, with_right, both, turns, repeat, token, reads, symbol, at_depth}
-use Rattle.sve_grammar.specs.Gives.{Fails}
+use Rattle.sve_grammar.specs.Reading.{Tree, none, pair, left, right, ended, Answer, halt, with_left, with_right, both, repeat, token, reads, symbol}
+use Rattle.sve_grammar.specs.Gives.{Fails, Finds}
 
 -- a rule that does not begin here is empty, or stops here
 
@@ -59,6 +54,10 @@ reads_idle ts below h (a ∣ b) i e = alt_idle (starts a (kind_at ts i)) (starts
 reads_idle ts below h nothing i e = (none, refl)
 reads_idle ts below h (many a) i e = (ended, repeat_idle ts (starts a) (reads ts below a) (length ts - i) i e)
 
+-- of two rules the first is read where it begins
+pub first_way : (ts : List Token) (n : ℕ) (a b : Rule) (i : ℕ) → starts a (kind_at ts i) ≡ true → reads ts (symbol ts n) (a ∣ b) i ≡ with_left (reads ts (symbol ts n) a i)
+first_way ts n a b i s = rw s refl
+
 -- of two rules the second is read where the first does not begin and is never empty
 pub last_way : (ts : List Token) (n : ℕ) (a b : Rule) (i : ℕ) → starts a (kind_at ts i) ≡ false → empties a ≡ false → reads ts (symbol ts n) (a ∣ b) i ≡ with_right (reads ts (symbol ts n) b i)
 last_way ts n a b i s e = rw (s, e) (go (starts b (kind_at ts i)) (empties b) (reads ts (symbol ts n) b i) (reads_idle ts (symbol ts n) (symbol_idle ts n) b i))
@@ -67,6 +66,19 @@ last_way ts n a b i s e = rw (s, e) (go (starts b (kind_at ts i)) (empties b) (r
     go true eb y q = refl
     go false true y q = refl
     go false false y q = rw (q refl) refl
+
+-- a rule that is never empty and does not begin here stops here
+pub stops_here : (ts : List Token) (n : ℕ) (r : Rule) (i : ℕ) → starts r (kind_at ts i) ≡ false → empties r ≡ false → reads ts (symbol ts n) r i ≡ halt i false
+stops_here ts n r i s e = go (empties r) (reads ts (symbol ts n) r i) e (reads_idle ts (symbol ts n) (symbol_idle ts n) r i s)
+  where
+    go : (empty : Bool) (x : Answer) → empty ≡ false → Idle empty i x → x ≡ halt i false
+    go true x e h = absurd cc
+    go false x e h = h
+
+-- whether a token of a set was found is whether its rule begins
+pub found_begins : {X : Type 0} (ts : List Token) (r : Rule) (view : X → ℕ → Tree) (i : ℕ) (found : Option X) → Finds ts r view i found → starts r (kind_at ts i) ≡ is_some found
+found_begins ts r view i None h = h
+found_begins ts r view i (Some x) h = h.0
 
 -- where the first part stops, the whole does
 pub fails_both : (e : Stop) (x : Answer) (f : ℕ → Answer) → Fails e x → Fails e (both x f)

@@ -1,9 +1,12 @@
+pub mod Unlike
 pub mod Begins
 pub mod Forward
+pub mod Held
 pub mod Loops
 pub mod Idle
 pub mod Runs
 pub mod Spelled
+pub mod ByKind
 pub mod Unique
 pub mod StartsOfExpressions
 pub mod StartsOfTypes

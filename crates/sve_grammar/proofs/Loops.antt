@@ -1,19 +1,11 @@
 -- A repetition turn by turn, and what a loop that reads it keeps.
-use Rattle.std.proofs.Common.{◌≡◌, ℕ, zero, suc, ◌+◌, ◌-◌, ◌<◌, ◌≤◌, Bool, true, false, cond, List, [], ◌∷◌, ◌++◌, length, Option, Some, None, Result, Ok, Err, refl, sym as flip, ap, subst, ◌∙◌ as ◌∘◌, arith, inl, inr}
-use Rattle.std.specs.Prelude.{◌||◌, ◌&&◌}
-use Rattle.std.proofs.lemmas.Bool.{cases_lt}
-use Rattle.std.proofs.lemmas.Option.{slice_get_past}
-use Rattle.sve_token.specs.declared.kind.Kind.{Kind}
+use Rattle.std.proofs.Common.{◌≡◌, ℕ, ◌-◌, ◌≤◌, true, false, cond, List, length, Ok, Err, refl, sym as flip, ap, ◌∙◌ as ◌∘◌, arith}
 use Rattle.sve_token.specs.declared.token.Token.{Token}
-use Rattle.sve_grammar.specs.declared.symbol.Symbol.{Symbol}
-use Rattle.sve_grammar.specs.declared.symbol.Symbol.TheVariants.{Expression, Conditional, Unary, DataType, LeftSide, Statement, Item}
 use Rattle.sve_grammar.specs.declared.stop.Stop.{Stop}
 use Rattle.sve_grammar.specs.declared.stop.Stop.TheVariants.{At, NoMemory}
-use Rattle.sve_grammar.specs.Token.{kind_at, has_kind}
-use Rattle.sve_grammar.specs.Rule.{Rule, tok, sym, ◌∙◌, ◌∣◌, nothing, many, starts, empties, opens}
-use Rattle.sve_grammar.specs.Grammar.{rule}
-use Rattle.sve_grammar.specs.Machine.{Halt}
-use Rattle.sve_grammar.specs.Reading.{Tree, leaf, none, pair, left, right, turn, ended, joined, Answer, ◌>>=◌, halt, with_left, with_right, both, turns, repeat, token, reads, symbol, at_depth}
+use Rattle.sve_grammar.specs.Token.{kind_at}
+use Rattle.sve_grammar.specs.Rule.{Rule, many, starts}
+use Rattle.sve_grammar.specs.Reading.{Tree, leaf, none, pair, left, right, turn, ended, joined, Answer, ◌>>=◌, both, turns, reads, symbol}
 use Rattle.sve_grammar.specs.Gives.{Fails}
 use Rattle.sve_grammar.proofs.Forward.{starts-none, reads_forward, symbol_forward, repeat_goes}
 
@@ -93,11 +85,11 @@ keeps_end ts d a front i total k s e = loop_ends ts (512 - d) a front i total k.
 pub keeps_fails : (ts : List Token) (d : ℕ) (a : Rule) (front : Tree) (i : ℕ) (total : Answer) → Keeps ts d a front i total → (e : Stop) → starts a (kind_at ts i) ≡ true → Fails e (reads ts (symbol ts (512 - d)) a i) → Fails e total
 keeps_fails ts d a front i total k e s r = loop_fails ts (512 - d) a front i total k.kept e s r
 
--- an operand in front of the repetition
-pub chain_init : (ts : List Token) (d : ℕ) (a b : Rule) (front x : Tree) (j i : ℕ) → reads ts (symbol ts (512 - d)) b i ≡ Ok (x, j) → front ≡ pair x ended → j ≤ length ts
-    → Keeps ts d a front j (reads ts (symbol ts (512 - d)) (b ∙ many a) i)
+-- an operand that was read, in front of the repetition
+pub chain_begins : (ts : List Token) (d : ℕ) (a : Rule) (front x : Tree) (j : ℕ) → front ≡ pair x ended → j ≤ length ts
+    → Keeps ts d a front j (both (Ok (x, j)) (λ i. reads ts (symbol ts (512 - d)) (many a) i))
 unfolding extend
-chain_init ts d a b front x j i r e w = record { kept = rw (e, r) (same (reads ts (symbol ts (512 - d)) (many a) j)); within = w }
+chain_begins ts d a front x j e w = record { kept = rw e (same (reads ts (symbol ts (512 - d)) (many a) j)); within = w }
   where
     same : (y : Answer) → extend (pair x ended) y ≡ (y >>= λ q. Ok (pair x q.0, q.1))
     same (Ok y) = refl

@@ -1,5 +1,5 @@
 -- The machine does what reading says, for every rule, above any stack.
-use Rattle.std.proofs.Common.{◌≡◌, ℕ, zero, suc, ◌+◌, ◌-◌, ◌<◌, ◌≤◌, Bool, true, false, cond, eqb, List, [], ◌∷◌, ◌++◌, length, Option, Some, None, Result, Ok, Err, refl, sym as flip, ap, subst, ◌∙◌ as ◌∘◌, arith, append_assoc}
+use Rattle.std.proofs.Common.{◌≡◌, ℕ, zero, suc, ◌+◌, ◌-◌, ◌<◌, ◌≤◌, Bool, true, false, cond, eqb, List, [], ◌∷◌, ◌++◌, length, Ok, Err, refl, arith, append_assoc}
 use Rattle.std.proofs.lemmas.List.{append-nil}
 use Rattle.std.proofs.lemmas.Bool.{eq-eqb, eqb-true}
 use Rattle.sve_grammar.specs.declared.symbol.Symbol.{Symbol}
@@ -7,8 +7,8 @@ use Rattle.sve_token.specs.declared.token.Token.{Token}
 use Rattle.sve_grammar.specs.Token.{kind_at, has_kind}
 use Rattle.sve_grammar.specs.Rule.{Rule, tok, sym, ◌∙◌, ◌∣◌, nothing, many, starts, empties, opens}
 use Rattle.sve_grammar.specs.Grammar.{rule}
-use Rattle.sve_grammar.specs.Machine.{Cell, cell, Move, first, second, more, enough, State, state, Halt, Turn, on, stop, step, turn, go, stops, Comes, here, then, Stops, now, later}
-use Rattle.sve_grammar.specs.Reading.{Tree, leaf, none, pair, left, right, turn as a_turn, ended, moves, Answer, ◌>>=◌, halt, with_left, with_right, both, turns, repeat, token, reads, symbol, at_depth}
+use Rattle.sve_grammar.specs.Machine.{Cell, cell, Move, first, second, more, enough, State, state, Halt, on, step, Comes, here, then, Stops, now, later}
+use Rattle.sve_grammar.specs.Reading.{Tree, leaf, pair, turn as a_turn, ended, moves, Answer, ◌>>=◌, halt, with_left, with_right, both, turns, repeat, token, reads, symbol, at_depth}
 use Rattle.sve_grammar.specs.Meaning.{Arrives, Runs}
 use Rattle.sve_grammar.proofs.Forward.{kind_past, starts-none, Forward, reads_forward, symbol_forward}
 

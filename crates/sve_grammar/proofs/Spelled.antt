@@ -1,13 +1,12 @@
 -- The tokens of a tree are numbered one after the other.
-use Rattle.std.proofs.Common.{◌≡◌, ℕ, zero, suc, ◌+◌, ◌-◌, Bool, true, false, cond, List, [], ◌∷◌, ◌++◌, length, Option, Result, Ok, Err, refl, sym as flip, subst}
+use Rattle.std.proofs.Common.{◌≡◌, ℕ, zero, suc, ◌+◌, ◌-◌, Bool, true, false, cond, List, [], ◌∷◌, ◌++◌, length, Option, Ok, Err, refl, sym as flip, subst}
 use Rattle.sve_grammar.specs.declared.symbol.Symbol.{Symbol}
 use Rattle.sve_token.specs.declared.token.Token.{Token}
 use Rattle.sve_token.specs.declared.kind.Kind.{Kind}
 use Rattle.sve_grammar.specs.Token.{kind_at, has_kind}
 use Rattle.sve_grammar.specs.Rule.{Rule, tok, sym, ◌∙◌, ◌∣◌, nothing, many, starts, empties, opens}
 use Rattle.sve_grammar.specs.Grammar.{rule}
-use Rattle.sve_grammar.specs.Machine.{Halt}
-use Rattle.sve_grammar.specs.Reading.{Tree, leaf, none, pair, left, right, turn, ended, leaves, Numbered, Answer, ◌>>=◌, halt, with_left, with_right, both, turns, repeat, token, reads, symbol, at_depth}
+use Rattle.sve_grammar.specs.Reading.{Tree, leaf, pair, turn, ended, leaves, Numbered, Answer, ◌>>=◌, halt, with_left, with_right, both, turns, repeat, token, reads, symbol, at_depth}
 
 abbrev pub Spelled : ℕ → Answer → Type 0
 Spelled i (Ok x) = Numbered i x.1 (leaves x.0)

@@ -1,5 +1,5 @@
 -- What the rules of expressions begin with, and that they are not empty: what a caller that tests the next token needs.
-use Rattle.std.proofs.Common.{◌≡◌, Bool, true, false, Option, refl}
+use Rattle.std.proofs.Common.{◌≡◌, false, Option, refl}
 use Rattle.std.specs.Prelude.{◌||◌}
 use Rattle.sve_token.specs.declared.kind.Kind.{Kind}
 use Rattle.sve_token.specs.declared.kind.Kind.TheVariants.{Keyword, Ampersand, Apostrophe, ApostropheLeftBrace, Arrow, Bang, Caret, CaretTilde, Colon, Comma, Decimal, Dot, DotStar, DoubleArrow, Identifier, LeftBrace, LeftBracket, LeftParen, Minus, MinusColon, Pipe, Plus, PlusColon, SystemName, Tilde, TildeAmpersand, TildeCaret, TildePipe}

@@ -1,5 +1,5 @@
 -- What the rules of items and designs begin with, and that they are not empty.
-use Rattle.std.proofs.Common.{◌≡◌, Bool, true, false, Option, refl}
+use Rattle.std.proofs.Common.{◌≡◌, false, Option, refl}
 use Rattle.std.specs.Prelude.{◌||◌}
 use Rattle.sve_token.specs.declared.kind.Kind.{Kind}
 use Rattle.sve_token.specs.declared.kind.Kind.TheVariants.{Keyword, Assign, ColonColon, Comma, Hash, Identifier, LeftBracket, LeftParen, MinusMinus, PlusPlus, Semicolon, Star}

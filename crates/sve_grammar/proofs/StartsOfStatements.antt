@@ -1,5 +1,5 @@
 -- What the rules of declarations, statements and functions begin with, and that they are not empty.
-use Rattle.std.proofs.Common.{◌≡◌, Bool, true, false, Option, refl}
+use Rattle.std.proofs.Common.{◌≡◌, false, Option, refl}
 use Rattle.std.specs.Prelude.{◌||◌}
 use Rattle.sve_token.specs.declared.kind.Kind.{Kind}
 use Rattle.sve_token.specs.declared.kind.Kind.TheVariants.{Keyword, AmpersandAssign, ArithmeticShiftLeftAssign, ArithmeticShiftRightAssign, Assign, CaretAssign, Colon, Comma, Identifier, LeftBrace, LeftBracket, LeftParen, LessEqual, LogicalShiftLeftAssign, LogicalShiftRightAssign, MinusAssign, MinusMinus, PercentAssign, PipeAssign, PlusAssign, PlusPlus, SlashAssign, Star, StarAssign, SystemName}

@@ -1,5 +1,5 @@
 -- What the rules of types and ports begin with, and that they are not empty.
-use Rattle.std.proofs.Common.{◌≡◌, Bool, true, false, Option, refl}
+use Rattle.std.proofs.Common.{◌≡◌, false, Option, refl}
 use Rattle.std.specs.Prelude.{◌||◌}
 use Rattle.sve_token.specs.declared.kind.Kind.{Kind}
 use Rattle.sve_token.specs.declared.kind.Kind.TheVariants.{Keyword, Assign, ColonColon, Comma, Dot, Hash, Identifier, LeftBracket, LeftParen}
@@ -10,6 +10,7 @@ use Rattle.sve_grammar.specs.Rule.{starts, empties, opens}
 use Rattle.sve_grammar.specs.Expressions.{signing, integer_atom_type, integer_vector_type, dimension, dimensions, scoped_name}
 use Rattle.sve_grammar.specs.Types.{more_identifiers, declared_name, initializer, more_declarators, declaration_end, atom_type, vector_type, named_type, enum_base, enum_name, more_enum_names, enumeration, type_reference, member, members, structure, declared_type_end, declared_type, direction, net_type, port_type_end, port_type, port_kind, port, more_ports, port_row, ports, parameter_keyword, parameter_port, more_parameter_ports, parameter_port_row, parameter_ports}
 use Rattle.sve_grammar.proofs.Begins.{or_none, or_or}
+use Rattle.sve_grammar.proofs.StartsOfExpressions.{integer_atom_type_full, integer_vector_type_full}
 
 pub more_identifiers_starts : (k : Option Kind) → starts more_identifiers k ≡ has_kind k Comma
 unfolding more_identifiers
@@ -47,9 +48,18 @@ pub atom_type_full : empties atom_type ≡ false
 unfolding atom_type integer_atom_type
 atom_type_full = refl
 
+-- it begins as the keyword alone does
+pub atom_type_begins : (k : Option Kind) → starts atom_type k ≡ starts integer_atom_type k
+unfolding atom_type
+atom_type_begins k = rw integer_atom_type_full (or_none (starts integer_atom_type k))
+
 pub vector_type_starts : (k : Option Kind) → starts vector_type k ≡ (has_kind k (Keyword KwBit) || (has_kind k (Keyword KwLogic) || has_kind k (Keyword KwReg)))
 unfolding vector_type integer_vector_type
 vector_type_starts k = or_none ((has_kind k (Keyword KwBit) || (has_kind k (Keyword KwLogic) || has_kind k (Keyword KwReg))))
+
+pub vector_type_begins : (k : Option Kind) → starts vector_type k ≡ starts integer_vector_type k
+unfolding vector_type
+vector_type_begins k = rw integer_vector_type_full (or_none (starts integer_vector_type k))
 
 pub vector_type_full : empties vector_type ≡ false
 unfolding vector_type integer_vector_type

@@ -1,7 +1,7 @@
 -- The machine has one run: it comes to an empty stack in one way, or it stops, in one way.
 use Rattle.std.proofs.Common.{◌≡◌, ◌⊎◌, List, refl, sym as flip, subst, ◌∙◌, inl, inr}
 use Rattle.sve_token.specs.declared.token.Token.{Token}
-use Rattle.sve_grammar.specs.Machine.{State, Halt, Turn, on, stop, done, step, Comes, here, then, Stops, now, later}
+use Rattle.sve_grammar.specs.Machine.{State, Halt, on, stop, done, step, Comes, here, then, Stops, now, later}
 
 first_step : (ts : List Token) {s u : State} → Comes ts s u → (s ≡ u) ⊎ ((next : State) × (step ts s ≡ on next) × Comes ts next u)
 first_step ts here = inl refl

@@ -2,7 +2,7 @@
 use Rattle.sve_token.specs.declared.kind.Kind.TheVariants.{Identifier, LeftParen, RightParen, Semicolon, Colon, Comma, Star, ColonColon}
 use Rattle.sve_token.specs.declared.keywords.Keyword.TheVariants.{KwAutomatic, KwStatic, KwImport, KwTypedef, KwVar}
 use Rattle.sve_grammar.specs.declared.symbol.Symbol.TheVariants.{DataType}
-use Rattle.sve_grammar.specs.Rule.{Rule, tok, sym, ◌∙◌, ◌∣◌, nothing, many, opt, word}
+use Rattle.sve_grammar.specs.Rule.{Rule, tok, sym, ◌∙◌, ◌∣◌, many, opt, word}
 use Rattle.sve_grammar.specs.Types.{declared_name, declared_type, declaration_end, initializer, type_reference, parameter_keyword, parameter_ports, ports, direction, net_type}
 
 -- lifetime (A.2.1.3)

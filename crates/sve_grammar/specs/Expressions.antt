@@ -1,9 +1,9 @@
 -- The rules of expressions (IEEE 1800-2017, A.8 and A.2.5); each comment names the production of Annex A that the rule is, in this profile.
-use Rattle.std.specs.Prelude.{ℕ, zero, suc, Bool, ◌==◌, if◌then◌else◌}
+use Rattle.std.specs.Prelude.{ℕ, zero, suc, ◌==◌, if◌then◌else◌}
 use Rattle.sve_token.specs.declared.kind.Kind.TheVariants.{Identifier, SystemName, Decimal, Based, Unbased, Text, LeftParen, RightParen, LeftBracket, RightBracket, LeftBrace, RightBrace, Colon, Comma, Dot, Question, Plus, Minus, Star, Slash, Percent, Ampersand, Pipe, Caret, Tilde, Bang, Less, Greater, Apostrophe, ApostropheLeftBrace, ColonColon, DotStar, StarStar, LogicalEquality, LogicalInequality, CaseEquality, CaseInequality, WildcardEquality, WildcardInequality, LogicalAnd, LogicalOr, TildeAmpersand, TildePipe, TildeCaret, CaretTilde, LogicalShiftLeft, LogicalShiftRight, ArithmeticShiftLeft, ArithmeticShiftRight, LessEqual, GreaterEqual, Arrow, DoubleArrow, PlusColon, MinusColon}
 use Rattle.sve_token.specs.declared.keywords.Keyword.TheVariants.{KwSigned, KwUnsigned, KwByte, KwShortint, KwInt, KwLongint, KwInteger, KwTime, KwBit, KwLogic, KwReg, KwInside, KwDefault}
 use Rattle.sve_grammar.specs.declared.symbol.Symbol.TheVariants.{Expression, Conditional, Unary}
-use Rattle.sve_grammar.specs.Rule.{Rule, tok, sym, ◌∙◌, ◌∣◌, nothing, many, opt, word}
+use Rattle.sve_grammar.specs.Rule.{Rule, tok, sym, ◌∙◌, ◌∣◌, many, opt, word}
 
 -- ---- parts that types share with expressions
 

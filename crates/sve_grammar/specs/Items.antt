@@ -2,7 +2,7 @@
 use Rattle.sve_token.specs.declared.kind.Kind.TheVariants.{Identifier, LeftParen, RightParen, Semicolon, Colon, Comma, Hash, At, Assign, Star, ColonColon}
 use Rattle.sve_token.specs.declared.keywords.Keyword.TheVariants.{KwGenvar, KwAssign, KwAlways, KwAlwaysFf, KwAlwaysComb, KwAlwaysLatch, KwInitial, KwGenerate, KwEndgenerate, KwFor, KwIf, KwElse, KwCase, KwEndcase, KwDefault, KwBegin, KwEnd, KwModport, KwOr, KwPosedge, KwNegedge, KwEdge, KwModule, KwMacromodule, KwEndmodule, KwInterface, KwEndinterface, KwPackage, KwEndpackage}
 use Rattle.sve_grammar.specs.declared.symbol.Symbol.TheVariants.{Expression, LeftSide, Statement, Item}
-use Rattle.sve_grammar.specs.Rule.{Rule, tok, sym, ◌∙◌, ◌∣◌, nothing, many, opt, word}
+use Rattle.sve_grammar.specs.Rule.{Rule, tok, sym, ◌∙◌, ◌∣◌, many, opt, word}
 use Rattle.sve_grammar.specs.Expressions.{parenthesized, dimension, dimensions, selects, more_expressions, argument_list}
 use Rattle.sve_grammar.specs.Types.{more_identifiers, declared_name, declaration_end}
 use Rattle.sve_grammar.specs.Declarations.{lifetime, label, import_declaration, header, parameter_declaration, type_declaration, net_declaration, variable_declaration, data_declaration, modport_item}

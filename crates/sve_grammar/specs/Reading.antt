@@ -1,5 +1,5 @@
 -- What a rule takes from a place on, or where it stops, without a stack: by recursion on the rule, and on how many depths are left (own).
-use Rattle.std.specs.Prelude.{ℕ, zero, suc, ◌+◌, ◌-◌, Bool, true, false, List, [], ◌∷◌, ◌++◌, length, Option, Result, Ok, Err, if◌then◌else◌, ◌≡◌}
+use Rattle.std.specs.Prelude.{ℕ, zero, suc, ◌+◌, ◌-◌, Bool, false, List, [], ◌∷◌, ◌++◌, length, Option, Result, Ok, Err, if◌then◌else◌, ◌≡◌}
 use Rattle.sve_token.specs.declared.kind.Kind.{Kind}
 use Rattle.sve_token.specs.declared.token.Token.{Token}
 use Rattle.sve_grammar.specs.declared.symbol.Symbol.{Symbol}
@@ -111,3 +111,7 @@ at_depth ts d r i = reads ts (symbol ts (512 - d)) r i
 abbrev pub Numbered : ℕ → ℕ → List ℕ → Type 0
 Numbered i j [] = i ≡ j
 Numbered i j (x ∷ xs) = (x ≡ i) × Numbered (i + 1) j xs
+
+-- two lists of tokens read the same: by every rule and symbol, at every depth, from every place
+abbrev pub ReadTheSame : List Token → List Token → Type 0
+ReadTheSame ts us = (d : ℕ) (r : Rule) (i : ℕ) → at_depth ts d r i ≡ at_depth us d r i

@@ -2,7 +2,7 @@
 use Rattle.sve_token.specs.declared.kind.Kind.TheVariants.{Identifier, SystemName, LeftParen, RightParen, LeftBracket, RightBracket, LeftBrace, RightBrace, Semicolon, Colon, Comma, Assign, PlusPlus, MinusMinus, LessEqual, PlusAssign, MinusAssign, StarAssign, SlashAssign, PercentAssign, AmpersandAssign, PipeAssign, CaretAssign, LogicalShiftLeftAssign, LogicalShiftRightAssign, ArithmeticShiftLeftAssign, ArithmeticShiftRightAssign}
 use Rattle.sve_token.specs.declared.keywords.Keyword.TheVariants.{KwBegin, KwEnd, KwUnique, KwUnique0, KwPriority, KwIf, KwElse, KwCase, KwCasez, KwCasex, KwEndcase, KwDefault, KwFor, KwForeach, KwWhile, KwRepeat, KwDo, KwReturn, KwBreak, KwContinue, KwVoid, KwFunction, KwEndfunction, KwRef, KwVar}
 use Rattle.sve_grammar.specs.declared.symbol.Symbol.TheVariants.{Expression, DataType, LeftSide, Statement}
-use Rattle.sve_grammar.specs.Rule.{Rule, tok, sym, ◌∙◌, ◌∣◌, nothing, many, opt, word}
+use Rattle.sve_grammar.specs.Rule.{Rule, tok, sym, ◌∙◌, ◌∣◌, many, opt, word}
 use Rattle.sve_grammar.specs.Expressions.{parenthesized, scoped_name, selects, more_expressions, argument_list, cast}
 use Rattle.sve_grammar.specs.Types.{more_identifiers, declared_name, initializer, declaration_end, declared_type, named_type, direction}
 use Rattle.sve_grammar.specs.Declarations.{lifetime, label, variable_declaration, data_declaration, parameter_declaration, type_declaration}

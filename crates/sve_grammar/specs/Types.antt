@@ -2,7 +2,7 @@
 use Rattle.sve_token.specs.declared.kind.Kind.TheVariants.{Identifier, LeftParen, RightParen, LeftBrace, RightBrace, Semicolon, Comma, Dot, Hash, Assign, ColonColon}
 use Rattle.sve_token.specs.declared.keywords.Keyword.TheVariants.{KwString, KwEnum, KwStruct, KwPacked, KwParameter, KwLocalparam, KwInput, KwOutput, KwInout, KwVar, KwWire, KwTri, KwUwire, KwWand, KwWor, KwTriand, KwTrior, KwTri0, KwTri1, KwSupply0, KwSupply1}
 use Rattle.sve_grammar.specs.declared.symbol.Symbol.TheVariants.{Expression, DataType}
-use Rattle.sve_grammar.specs.Rule.{Rule, tok, sym, ◌∙◌, ◌∣◌, nothing, many, opt, word}
+use Rattle.sve_grammar.specs.Rule.{Rule, tok, sym, ◌∙◌, ◌∣◌, many, opt, word}
 use Rattle.sve_grammar.specs.Expressions.{signing, integer_atom_type, integer_vector_type, dimension, dimensions, scoped_name}
 
 -- ---- names

@@ -1,17 +1,40 @@
 //! What each of the seven symbols begins with.
 
-ghost use Rattle.std.specs.Prelude.{◌≡◌, ◌≤◌};
+ghost use Rattle.std.specs.Prelude.{◌≡◌, ◌≤◌, Some};
 ghost use Rattle.sve_grammar.specs.Token.{kind_at};
 ghost use Rattle.sve_grammar.specs.Rule.{opens};
 ghost use Rattle.sve_grammar.specs.Gives.{Enters};
 
-use crate::take::is_one_of;
+use crate::take::{is_one_of, kind_here};
 use crate::{Stop, Symbol};
 use sve_token::{Keyword, Kind, Token};
 
 /// Whether the symbol can begin with the token at this place.
-#[tactic(auto, unfolding(crate::specs::Rule::opens))]
 pub fn opens_here(tokens: &[Token], at: u32, symbol: Symbol) -> bool
+    ensures { result ≡ opens symbol (kind_at tokens.now at) }
+{
+    // a name is what most begins with, and stands last in the lists
+    match kind_here(tokens, at) {
+        Some(Kind::Identifier) => begins_with_name(symbol),
+        _ => is_first_of(tokens, at, symbol),
+    }
+}
+
+/// Whether the symbol can begin with a name.
+#[tactic(auto, unfolding(crate::specs::Rule::opens, crate::specs::Token::same_kind))]
+fn begins_with_name(symbol: Symbol) -> bool
+    ensures { result ≡ opens symbol (Some Kind.Identifier) }
+{
+    match symbol {
+        Symbol::Expression | Symbol::Conditional | Symbol::Unary => true,
+        Symbol::DataType => false,
+        Symbol::LeftSide | Symbol::Statement | Symbol::Item => true,
+    }
+}
+
+/// Whether the token at this place is among those that the symbol can begin with.
+#[tactic(auto, unfolding(crate::specs::Rule::opens))]
+fn is_first_of(tokens: &[Token], at: u32, symbol: Symbol) -> bool
     ensures { result ≡ opens symbol (kind_at tokens.now at) }
 {
     match symbol {

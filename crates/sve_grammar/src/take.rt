@@ -1,13 +1,34 @@
 //! How parsers take tokens: the words of which their bodies are made.
 
 ghost use Rattle.std.specs.Prelude.{◌≡◌, ◌<◌, ◌≤◌, ◌+◌, ◌^◌, length, IfOk};
-ghost use Rattle.sve_grammar.specs.Token.{kind_at, has_kind};
+ghost use Rattle.sve_grammar.specs.Token.{kind_at, has_kind, IsKeyword};
 ghost use Rattle.sve_grammar.specs.Rule.{opens, is_among};
 ghost use Rattle.sve_grammar.specs.Reading.{leaf, token};
 ghost use Rattle.sve_grammar.specs.Gives.{Gives, Accepts, Enters};
 
 use crate::{Stop, Symbol};
 use sve_token::{Keyword, Kind, Token};
+
+/// The kind of the token at this place; behind the last token there is none.
+pub fn kind_here(tokens: &[Token], at: u32) -> Option<Kind>
+    ensures { result ≡ kind_at tokens.now at }
+{
+    match tokens.get(at as usize) {
+        Some(token) => Some(token.kind),
+        None => None,
+    }
+}
+
+/// The keyword at this place, if a keyword stands here.
+#[tactic(auto, unfolding(crate::specs::Token::same_kind))]
+pub fn keyword_here(tokens: &[Token], at: u32) -> Option<Keyword>
+    ensures { IsKeyword tokens.now at result }
+{
+    match kind_here(tokens, at)? {
+        Kind::Keyword(word) => Some(word),
+        _ => None,
+    }
+}
 
 /// Whether the token at this place is of this kind; behind the last token it is of none.
 #[tactic(auto, unfolding(crate::specs::Token::same_kind))]

@@ -1,31 +1,31 @@
 -- Nothing is lost where trees of a chunk are seen as readings.
 use Rattle.std.proofs.Common.{ℕ}
-use Rattle.sve_tree.specs.Expressions.{dimension_tree, range_tree, select_tree, argument_list_tree, arg_tree, pattern_tree, tree_at}
-use Rattle.sve_tree.specs.Types.{named_type_tree, initializer_tree, declarator_tree, data_type_tree, type_ref_tree}
-use Rattle.sve_tree.specs.Declarations.{parameters_tree, typedef_tree, import_tree, modport_tree, decl_tree, declaration_end_tree, header_tree}
-use Rattle.sve_tree.specs.Statements.{left_side_tree, stmt_tree, block_item_tree, func_tree}
-use Rattle.sve_tree.specs.Items.{item_tree}
-use Rattle.sve_tree.specs.Elements.{unit_item_tree, design_tree, element_tree}
-use Rattle.sve_outline.specs.Expressions.{expr_outline, dimension_outline, range_outline, select_outline, argument_list_outline, arg_outline, pattern_outline}
-use Rattle.sve_outline.proofs.ReadExpressions.{read_expr, expr_read, read_dimension, dimension_read, read_range, range_read, read_select, select_read, read_argument_list, argument_list_read, read_arg, arg_read, read_pattern, pattern_read}
-use Rattle.sve_outline.specs.Types.{named_type_outline, initializer_outline, declarator_outline, data_type_outline, type_ref_outline}
-use Rattle.sve_outline.proofs.ReadTypes.{read_named_type, named_type_read, read_initializer, initializer_read, read_declarator, declarator_read, read_data_type, data_type_read, read_type_ref, type_ref_read}
-use Rattle.sve_outline.specs.Declarations.{parameters_outline, typedef_outline, import_outline, modport_outline, declaration_end_outline, header_outline, decl_outline}
-use Rattle.sve_outline.proofs.ReadDeclarations.{read_parameters, parameters_read, read_typedef, typedef_read, read_import, import_read, read_modport, modport_read, read_declaration_end, declaration_end_read, read_header, header_read, read_decl, decl_read}
-use Rattle.sve_outline.specs.Statements.{left_side_outline, stmt_outline, block_item_outline, func_outline}
-use Rattle.sve_outline.proofs.ReadStatements.{read_left_side, left_side_read, read_stmt, stmt_read, read_block_item, block_item_read, read_func, func_read}
-use Rattle.sve_outline.specs.Items.{item_outline}
-use Rattle.sve_outline.proofs.ReadItems.{read_item, item_read}
-use Rattle.sve_outline.specs.Elements.{unit_item_outline, design_outline, element_outline}
-use Rattle.sve_outline.proofs.ReadElements.{read_unit_item, unit_item_read, read_design, design_read, read_element, element_read}
-use Rattle.sve_outline.proofs.WriteExpressions.{expr_written, written_dimension, dimension_written, written_range, range_written, written_select, select_written, written_argument_list, argument_list_written, written_arg, arg_written, written_pattern, pattern_written, written_at}
-use Rattle.sve_outline.proofs.WriteTypes.{written_named_type, named_type_written, written_initializer, initializer_written, written_declarator, declarator_written, written_data_type, data_type_written, written_type_ref, type_ref_written}
-use Rattle.sve_outline.proofs.WriteDeclarations.{written_parameters, parameters_written, written_typedef, typedef_written, written_import, import_written, written_modport, modport_written, written_declaration_end, declaration_end_written, written_header, header_written, written_decl, decl_written}
-use Rattle.sve_outline.proofs.WriteStatements.{written_left_side, left_side_written, written_stmt, stmt_written, written_block_item, block_item_written, written_func, func_written}
-use Rattle.sve_outline.proofs.WriteItems.{written_item, item_written}
-use Rattle.sve_outline.proofs.WriteElements.{written_unit_item, unit_item_written, written_design, design_written, written_element, element_written}
-use Rattle.sve_outline.specs.Outline.{IsKept}
 use Rattle.sve_outline.proofs.Kept.{kept}
+use Rattle.sve_outline.proofs.ReadDeclarations.{decl_read, header_read, import_read, modport_read, net_declaration_read, parameters_read, read_decl, read_header, read_import, read_modport, read_net_declaration, read_parameters, read_typedef, read_variable_declaration, typedef_read, variable_declaration_read}
+use Rattle.sve_outline.proofs.ReadElements.{design_read, element_read, read_design, read_element, read_unit_item, unit_item_read}
+use Rattle.sve_outline.proofs.ReadExpressions.{arg_read, argument_list_read, dimension_read, expr_read, pattern_read, range_read, read_arg, read_argument_list, read_dimension, read_expr, read_pattern, read_range, read_select, select_read}
+use Rattle.sve_outline.proofs.ReadItems.{item_read, read_item}
+use Rattle.sve_outline.proofs.ReadStatements.{block_item_read, func_read, left_side_read, read_block_item, read_func, read_left_side, read_stmt, stmt_read}
+use Rattle.sve_outline.proofs.ReadTypes.{data_type_read, declarator_read, initializer_read, named_type_read, read_data_type, read_declarator, read_initializer, read_named_type, read_type_ref, read_typed_name, type_ref_read, typed_name_read}
+use Rattle.sve_outline.proofs.WriteDeclarations.{decl_written, header_written, import_written, modport_written, net_declaration_written, parameters_written, typedef_written, variable_declaration_written, written_decl, written_header, written_import, written_modport, written_net_declaration, written_parameters, written_typedef, written_variable_declaration}
+use Rattle.sve_outline.proofs.WriteElements.{design_written, element_written, unit_item_written, written_design, written_element, written_unit_item}
+use Rattle.sve_outline.proofs.WriteExpressions.{arg_written, argument_list_written, dimension_written, expr_written, pattern_written, range_written, select_written, written_arg, written_argument_list, written_at, written_dimension, written_pattern, written_range, written_select}
+use Rattle.sve_outline.proofs.WriteItems.{item_written, written_item}
+use Rattle.sve_outline.proofs.WriteStatements.{block_item_written, func_written, left_side_written, stmt_written, written_block_item, written_func, written_left_side, written_stmt}
+use Rattle.sve_outline.proofs.WriteTypes.{data_type_written, declarator_written, initializer_written, named_type_written, type_ref_written, typed_name_written, written_data_type, written_declarator, written_initializer, written_named_type, written_type_ref, written_typed_name}
+use Rattle.sve_outline.specs.Declarations.{decl_outline, header_outline, import_outline, modport_outline, net_declaration_outline, parameters_outline, typedef_outline, variable_declaration_outline}
+use Rattle.sve_outline.specs.Elements.{design_outline, element_outline, unit_item_outline}
+use Rattle.sve_outline.specs.Expressions.{arg_outline, argument_list_outline, dimension_outline, expr_outline, pattern_outline, range_outline, select_outline}
+use Rattle.sve_outline.specs.Items.{item_outline}
+use Rattle.sve_outline.specs.Outline.{IsKept}
+use Rattle.sve_outline.specs.Statements.{block_item_outline, func_outline, left_side_outline, stmt_outline}
+use Rattle.sve_outline.specs.Types.{data_type_outline, declarator_outline, initializer_outline, named_type_outline, type_ref_outline, typed_name_outline}
+use Rattle.sve_tree.specs.Declarations.{decl_tree, header_tree, import_tree, modport_tree, net_declaration_tree, parameters_tree, typedef_tree, variable_declaration_tree}
+use Rattle.sve_tree.specs.Elements.{design_tree, element_tree, unit_item_tree}
+use Rattle.sve_tree.specs.Expressions.{arg_tree, argument_list_tree, dimension_tree, pattern_tree, range_tree, select_tree, tree_at}
+use Rattle.sve_tree.specs.Items.{item_tree}
+use Rattle.sve_tree.specs.Statements.{block_item_tree, func_tree, left_side_tree, stmt_tree}
+use Rattle.sve_tree.specs.Types.{data_type_tree, declarator_tree, initializer_tree, named_type_tree, type_ref_tree, typed_name_tree}
 
 -- ---- expressions
 
@@ -67,6 +67,9 @@ declarator_kept = kept declarator_tree declarator_outline read_declarator writte
 pub initializer_kept : IsKept initializer_tree initializer_outline
 initializer_kept = kept initializer_tree initializer_outline read_initializer written_initializer initializer_read initializer_written
 
+pub typed_name_kept : IsKept typed_name_tree typed_name_outline
+typed_name_kept = kept typed_name_tree typed_name_outline read_typed_name written_typed_name typed_name_read typed_name_written
+
 -- ---- declarations
 
 pub decl_kept : IsKept decl_tree decl_outline
@@ -84,8 +87,11 @@ import_kept = kept import_tree import_outline read_import written_import import_
 pub modport_kept : IsKept modport_tree modport_outline
 modport_kept = kept modport_tree modport_outline read_modport written_modport modport_read modport_written
 
-pub declaration_end_kept : IsKept declaration_end_tree declaration_end_outline
-declaration_end_kept = kept declaration_end_tree declaration_end_outline read_declaration_end written_declaration_end declaration_end_read declaration_end_written
+pub net_declaration_kept : IsKept net_declaration_tree net_declaration_outline
+net_declaration_kept = kept net_declaration_tree net_declaration_outline read_net_declaration written_net_declaration net_declaration_read net_declaration_written
+
+pub variable_declaration_kept : IsKept variable_declaration_tree variable_declaration_outline
+variable_declaration_kept = kept variable_declaration_tree variable_declaration_outline read_variable_declaration written_variable_declaration variable_declaration_read variable_declaration_written
 
 pub header_kept : IsKept header_tree header_outline
 header_kept = kept header_tree header_outline read_header written_header header_read header_written

@@ -1,14 +1,15 @@
 pub mod Whole
 pub mod Readers
-pub mod ReadWords
+pub mod Writers
+pub mod Marks
+pub mod ReadNames
 pub mod ReadExpressions
 pub mod ReadTypes
 pub mod ReadDeclarations
 pub mod ReadStatements
 pub mod ReadItems
 pub mod ReadElements
-pub mod Writers
-pub mod WriteWords
+pub mod WriteNames
 pub mod WriteExpressions
 pub mod WriteTypes
 pub mod WriteDeclarations
@@ -18,3 +19,4 @@ pub mod WriteElements
 pub mod Kept
 pub mod Laws
 pub mod Rows
+pub mod ElementWords

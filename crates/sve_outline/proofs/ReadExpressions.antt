@@ -1,66 +1,60 @@
 -- Expressions, read back from their trees.
-use Rattle.sve_grammar.specs.Reading.{Tree, leaf, none, pair, left, right, turn, ended}
-use Rattle.std.proofs.Common.{ℕ, zero, suc, ◌-◌, ◌≡◌, ◌<◌, refl, ◌∙◌, arith, Bool, true, false, cond, eqb, ltb, subst}
-use Rattle.sve_tree.specs.declared.word.BinaryOperator.{BinaryOperator}
-use Rattle.sve_tree.specs.Words.{sign_tree, binary_operator_tree}
-use Rattle.sve_tree.specs.Expressions.{level_of, operation_level, operation_row_level, row_of_level, is_chain_row, height, raise, in_place, own, operation_tree, dimension_tree, range_tree, select_tree, postfix_tree, argument_list_tree, arg_tree, value_range_tree, pattern_tree, pattern_item_tree, next_expression_row, range_select_row, dimension_row, select_row, postfix_row, operation_row, next_value_range_row, next_argument_row, next_pattern_item_row, tree_at, expression_tree, parenthesized_tree, cast_tree, next_expression_tree}
-use Rattle.std.specs.Global.{Box}
-use Rattle.sve_tree.specs.Shape.{word_tree}
-use Rattle.sve_tree.specs.declared.expression.Expr.{Expr, Row_of-Dimension, Row_of-NextExpression, Row_of-Operation, Row_of-Postfix, Row_of-RangeSelect, Row_of-Select, end_of-Dimension, end_of-NextExpression, end_of-Operation, end_of-Postfix, end_of-RangeSelect, end_of-Select, more_of-Dimension, more_of-NextExpression, more_of-Operation, more_of-Postfix, more_of-RangeSelect, more_of-Select}
-use Rattle.sve_tree.specs.declared.expression.Operation.{Operation, Row_of-NextValueRange, end_of-NextValueRange, more_of-NextValueRange}
-use Rattle.sve_tree.specs.declared.expression.Parenthesized.{Parenthesized}
-use Rattle.sve_tree.specs.declared.expression.Cast.{Cast}
-use Rattle.sve_tree.specs.declared.expression.NextExpression.{NextExpression}
-use Rattle.sve_tree.specs.declared.expression.Dimension.{Dimension}
-use Rattle.sve_tree.specs.declared.expression.Range.{Range}
-use Rattle.sve_tree.specs.declared.expression.Select.{Select}
-use Rattle.sve_tree.specs.declared.expression.Postfix.{Postfix}
-use Rattle.sve_tree.specs.declared.expression.ArgumentList.{ArgumentList, ArgumentList', Row_of-NextArgument, end_of-NextArgument, more_of-NextArgument}
-use Rattle.sve_tree.specs.declared.expression.Arg.{Arg}
-use Rattle.sve_tree.specs.declared.expression.ValueRange.{ValueRange}
-use Rattle.sve_tree.specs.declared.expression.Pattern.{Pattern, Pattern', Row_of-NextPatternItem, end_of-NextPatternItem, more_of-NextPatternItem}
-use Rattle.sve_tree.specs.declared.expression.PatternItem.{PatternItem}
-use Rattle.sve_outline.specs.Outline.{Outline, token_at, variant, ◌◂◌, no_more, word_outline, IsWhole}
-use Rattle.sve_outline.proofs.Readers.{◌◃◌, read_option, option_read}
-use Rattle.sve_outline.specs.Words.{sign_place}
-use Rattle.sve_outline.proofs.ReadWords.{read_sign, sign_read, read_integer_keyword, integer_keyword_read, read_unary_operator, unary_operator_read, read_binary_operator, binary_operator_read, read_scoped_name, scoped_name_read}
-use Rattle.sve_outline.specs.Expressions.{expr_outline, operation_outline, dimension_outline, range_outline, select_outline, postfix_outline, argument_list_outline, arg_outline, value_range_outline, pattern_outline, pattern_item_outline, next_expression_row_outline, range_select_row_outline, dimension_row_outline, select_row_outline, postfix_row_outline, operation_row_outline, next_value_range_row_outline, next_argument_row_outline, next_pattern_item_row_outline, expression_outline, parenthesized_outline, cast_outline, next_expression_outline}
+use Rattle.std.proofs.Common.{Bool, List, [], arith, cond, eqb, false, ltb, refl, subst, suc, true, zero, ℕ, ◌-◌, ◌<◌, ◌∙◌, ◌∷◌, ◌≡◌}
 use Rattle.std.proofs.lemmas.Bool.{eqb-true}
 use Rattle.std.specs.Prelude.{◌&&◌}
+use Rattle.sve_grammar.specs.Reading.{Tree, ended, leaf, left, none, pair, right, turn}
+use Rattle.sve_outline.proofs.Marks.{binary_operator_said, integer_keyword_read, read_binary_operator, read_integer_keyword, sign_marked, unary_operator_marked}
+use Rattle.sve_outline.proofs.ReadNames.{read_scoped_name, scoped_name_read}
+use Rattle.sve_outline.proofs.Readers.{IsRead, mark_read, numbered, option_read, read_option, read_row, read_separators, read_token, row_read, separators_read, token_read, ◌◃◌}
+use Rattle.sve_outline.specs.Expressions.{arg_outline, argument_list_outline, argument_row_outline, cast_outline, dimension_outline, dimension_row_outline, expr_outline, expression_outline, expression_row_outline, operation_outline, operation_row_outline, parenthesized_outline, pattern_item_outline, pattern_item_row_outline, pattern_outline, postfix_outline, postfix_row_outline, range_outline, range_select_row_outline, select_outline, select_row_outline, value_range_outline, value_range_row_outline}
+use Rattle.sve_outline.specs.Outline.{IsWhole, Outline, no_more, token_at, variant, ◌◂◌}
+use Rattle.sve_outline.specs.Words.{implication_operator_place}
+use Rattle.sve_tree.specs.Expressions.{arg_tree, argument_list_tree, argument_trees, cast_tree, dimension_row, dimension_tree, expression_tree, expression_trees, height, in_place, is_chain_row, level_of, operation_level, operation_row, operation_row_level, operation_tree, own, parenthesized_tree, pattern_item_tree, pattern_item_trees, pattern_tree, postfix_row, postfix_tree, raise, range_select_row, range_tree, row_of_level, select_row, select_tree, tree_at, value_range_tree, value_range_trees}
+use Rattle.sve_tree.specs.Shape.{first_of, first_tree, further_of, further_tree, mark_tree, others_tree, repeated_tree, rest_tree}
+use Rattle.sve_tree.specs.Words.{binary_operator_tree, implication_operator_tree}
+use Rattle.sve_tree.specs.declared.expression.Arg.{Arg}
+use Rattle.sve_tree.specs.declared.expression.Dimension.{Dimension}
+use Rattle.sve_tree.specs.declared.expression.Expr.{Expr, Row_of-Arg, Row_of-Dimension, Row_of-Expr, Row_of-Operation, Row_of-PatternItem, Row_of-Postfix, Row_of-RangeSelect, Row_of-Select, end_of-Arg, end_of-Dimension, end_of-Expr, end_of-Operation, end_of-PatternItem, end_of-Postfix, end_of-RangeSelect, end_of-Select, more_of-Arg, more_of-Dimension, more_of-Expr, more_of-Operation, more_of-PatternItem, more_of-Postfix, more_of-RangeSelect, more_of-Select}
+use Rattle.sve_tree.specs.declared.expression.Operation.{Operation, Row_of-ValueRange, end_of-ValueRange, more_of-ValueRange}
+use Rattle.sve_tree.specs.declared.expression.PatternItem.{PatternItem}
+use Rattle.sve_tree.specs.declared.expression.Postfix.{Postfix}
+use Rattle.sve_tree.specs.declared.expression.Range.{Range}
+use Rattle.sve_tree.specs.declared.expression.Select.{Select}
+use Rattle.sve_tree.specs.declared.expression.ValueRange.{ValueRange}
+use Rattle.sve_tree.specs.declared.word.BinaryOperator.{BinaryOperator}
+use Rattle.sve_tree.specs.declared.word.ImplicationOperator.{ImplicationOperator}
+use Rattle.sve_tree.specs.declared.expression.Arg.TheVariants as is_arg
 use Rattle.sve_tree.specs.declared.word.BinaryOperator.TheVariants as is_binary_operator
-use Rattle.sve_tree.specs.declared.word.ImplicationOperator.TheVariants as is_implication_operator
-use Rattle.sve_tree.specs.declared.expression.Expr.TheVariants as is_expr
-use Rattle.sve_tree.specs.declared.expression.Operation.TheVariants as is_operation
 use Rattle.sve_tree.specs.declared.expression.Dimension.TheVariants as is_dimension
+use Rattle.sve_tree.specs.declared.expression.Expr.TheVariants as is_expr
+use Rattle.sve_tree.specs.declared.word.ImplicationOperator.TheVariants as is_implication_operator
+use Rattle.sve_tree.specs.declared.expression.Operation.TheVariants as is_operation
+use Rattle.sve_tree.specs.declared.expression.PatternItem.TheVariants as is_pattern_item
+use Rattle.sve_tree.specs.declared.expression.Postfix.TheVariants as is_postfix
 use Rattle.sve_tree.specs.declared.expression.Range.TheVariants as is_range
 use Rattle.sve_tree.specs.declared.expression.Select.TheVariants as is_select
-use Rattle.sve_tree.specs.declared.expression.Postfix.TheVariants as is_postfix
-use Rattle.sve_tree.specs.declared.expression.Arg.TheVariants as is_arg
 use Rattle.sve_tree.specs.declared.expression.ValueRange.TheVariants as is_value_range
-use Rattle.sve_tree.specs.declared.expression.PatternItem.TheVariants as is_pattern_item
-
--- ---- expressions and their parts
 
 mutual
   pub read_expr : ℕ → Tree → Outline
   read_expr zero (right (left (pair (leaf token) (right none)))) = variant 0 ◂ token_at token
   read_expr zero (right (left (pair (leaf size) (left (left (leaf based)))))) = variant 1 ◂ token_at size ◂ token_at based
-  read_expr zero (right (left (pair (leaf size) (left (right (pair (leaf apostrophe) (pair (leaf opening) (pair value (leaf closing))))))))) = variant 2 ◂ token_at size ◂ token_at apostrophe ◂ token_at opening ◂ read_expr 13 value ◂ token_at closing
+  read_expr zero (right (left (pair (leaf size) (left (right (pair (leaf apostrophe) (pair (leaf opening) (pair value_value (leaf closing))))))))) = variant 2 ◂ token_at size ◂ token_at apostrophe ◂ token_at opening ◂ read_expr 13 value_value ◂ token_at closing
   read_expr zero (right (right (left (leaf token)))) = variant 3 ◂ token_at token
   read_expr zero (right (right (right (left (leaf token))))) = variant 4 ◂ token_at token
   read_expr zero (right (right (right (right (left (leaf token)))))) = variant 5 ◂ token_at token
   read_expr zero (right (right (right (right (right (left (pair (pair (leaf opening) (pair value (leaf closing))) (right none)))))))) = variant 6 ◂ token_at opening ◂ read_expr 13 value ◂ token_at closing
-  read_expr zero (right (right (right (right (right (left (pair (pair (leaf opening) (pair value (leaf closing))) (left (pair (leaf apostrophe) (pair (leaf cast_opening) (pair cast_value (leaf cast_closing)))))))))))) = variant 7 ◂ (token_at opening ◂ read_expr 13 value ◂ token_at closing) ◂ token_at apostrophe ◂ token_at cast_opening ◂ read_expr 13 cast_value ◂ token_at cast_closing
-  read_expr zero (right (right (right (right (right (right (left pattern))))))) = variant 8 ◂ read_pattern pattern
-  read_expr zero (right (right (right (right (right (right (right (left (pair (leaf opening) (pair count (pair (left (pair (leaf inner_opening) (pair first (pair others (leaf inner_closing))))) (pair (leaf closing) selects)))))))))))) = variant 9 ◂ token_at opening ◂ read_expr 13 count ◂ token_at inner_opening ◂ read_expr 13 first ◂ read_next_expression_row others ◂ token_at inner_closing ◂ token_at closing ◂ read_range_select_row selects
-  read_expr zero (right (right (right (right (right (right (right (left (pair (leaf opening) (pair first (pair (right others) (pair (leaf closing) selects)))))))))))) = variant 10 ◂ token_at opening ◂ read_expr 13 first ◂ read_next_expression_row others ◂ token_at closing ◂ read_range_select_row selects
-  read_expr zero (right (right (right (right (right (right (right (right (left (pair sign (pair (leaf apostrophe) (pair (leaf opening) (pair value (leaf closing)))))))))))))) = variant 11 ◂ read_sign sign ◂ token_at apostrophe ◂ token_at opening ◂ read_expr 13 value ◂ token_at closing
-  read_expr zero (right (right (right (right (right (right (right (right (right (left (pair keyword (pair sign (pair dimensions (right none)))))))))))))) = variant 12 ◂ read_integer_keyword keyword ◂ read_option read_sign sign ◂ read_dimension_row dimensions
-  read_expr zero (right (right (right (right (right (right (right (right (right (left (pair keyword (pair sign (pair dimensions (left (pair (leaf apostrophe) (pair (leaf opening) (pair value (leaf closing)))))))))))))))))) = variant 13 ◂ read_integer_keyword keyword ◂ read_option read_sign sign ◂ read_dimension_row dimensions ◂ token_at apostrophe ◂ token_at opening ◂ read_expr 13 value ◂ token_at closing
+  read_expr zero (right (right (right (right (right (left (pair (pair (leaf opening) (pair value (leaf closing))) (left (pair (leaf apostrophe) (pair (leaf cast_value_opening) (pair cast_value_value (leaf cast_value_closing)))))))))))) = variant 7 ◂ token_at opening ◂ read_expr 13 value ◂ token_at closing ◂ token_at apostrophe ◂ token_at cast_value_opening ◂ read_expr 13 cast_value_value ◂ token_at cast_value_closing
+  read_expr zero (right (right (right (right (right (right (left (pair (leaf opening) (pair first (pair others (leaf closing))))))))))) = variant 8 ◂ token_at opening ◂ ((read_pattern_item first ◂ read_pattern_item_rest others) ◂ read_separators read_token others) ◂ token_at closing
+  read_expr zero (right (right (right (right (right (right (right (left (pair (leaf opening) (pair count (pair (left (pair (leaf inner_opening) (pair first (pair others (leaf inner_closing))))) (pair (leaf closing) selects)))))))))))) = variant 9 ◂ token_at opening ◂ read_expr 13 count ◂ token_at inner_opening ◂ ((read_expr 13 first ◂ read_expression_rest others) ◂ read_separators read_token others) ◂ token_at inner_closing ◂ token_at closing ◂ read_range_select_row selects
+  read_expr zero (right (right (right (right (right (right (right (left (pair (leaf opening) (pair first (pair (right others) (pair (leaf closing) selects)))))))))))) = variant 10 ◂ token_at opening ◂ ((read_expr 13 first ◂ read_expression_rest others) ◂ read_separators read_token others) ◂ token_at closing ◂ read_range_select_row selects
+  read_expr zero (right (right (right (right (right (right (right (right (left (pair sign (pair (leaf apostrophe) (pair (leaf opening) (pair value_value (leaf closing)))))))))))))) = variant 11 ◂ numbered 1 0 sign ◂ token_at apostrophe ◂ token_at opening ◂ read_expr 13 value_value ◂ token_at closing
+  read_expr zero (right (right (right (right (right (right (right (right (right (left (pair keyword (pair sign (pair dimensions (right none)))))))))))))) = variant 12 ◂ read_integer_keyword keyword ◂ read_option (numbered 1 0) sign ◂ read_dimension_row dimensions
+  read_expr zero (right (right (right (right (right (right (right (right (right (left (pair keyword (pair sign (pair dimensions (left (pair (leaf apostrophe) (pair (leaf opening) (pair value_value (leaf closing)))))))))))))))))) = variant 13 ◂ read_integer_keyword keyword ◂ read_option (numbered 1 0) sign ◂ read_dimension_row dimensions ◂ token_at apostrophe ◂ token_at opening ◂ read_expr 13 value_value ◂ token_at closing
   read_expr zero (right (right (right (right (right (right (right (right (right (right (left (pair (leaf name) (pair (right none) selects))))))))))))) = variant 14 ◂ token_at name ◂ read_select_row selects
-  read_expr zero (right (right (right (right (right (right (right (right (right (right (left (pair (leaf name) (pair (left arguments) selects))))))))))))) = variant 15 ◂ token_at name ◂ read_argument_list arguments ◂ read_select_row selects
+  read_expr zero (right (right (right (right (right (right (right (right (right (right (left (pair (leaf name) (pair (left (pair (leaf opening) (pair (pair first others) (leaf closing)))) selects))))))))))))) = variant 15 ◂ token_at name ◂ token_at opening ◂ ((read_arg first ◂ read_argument_rest others) ◂ read_separators read_token others) ◂ token_at closing ◂ read_select_row selects
   read_expr zero (right (right (right (right (right (right (right (right (right (right (right (pair name postfixes)))))))))))) = variant 16 ◂ read_scoped_name name ◂ read_postfix_row postfixes
-  read_expr zero (left (pair operator operand)) = variant 17 ◂ read_unary_operator operator ◂ read_expr 0 operand
+  read_expr zero (left (pair operator operand)) = variant 17 ◂ numbered 10 0 operator ◂ read_expr 0 operand
   read_expr (suc n) (pair t ended) = read_expr n t
   read_expr (suc n) (pair t (right none)) = read_expr n t
   read_expr (suc n) (pair first (turn operation rest)) = variant 18 ◂ read_expr n first ◂ read_operation (suc n) operation ◂ read_operation_row (suc n) rest
@@ -72,7 +66,7 @@ mutual
   pub read_operation : ℕ → Tree → Outline
   read_operation level (pair operator r) = variant 0 ◂ read_binary_operator level operator ◂ read_expr (level - 1) r
   read_operation level (left (pair operator r)) = variant 0 ◂ read_binary_operator level operator ◂ read_expr (level - 1) r
-  read_operation level (right (pair (leaf keyword) (pair (leaf opening) (pair first (pair others (leaf closing)))))) = variant 1 ◂ token_at keyword ◂ token_at opening ◂ read_value_range first ◂ read_next_value_range_row others ◂ token_at closing
+  read_operation level (right (pair (leaf keyword) (pair (leaf opening) (pair first (pair others (leaf closing)))))) = variant 1 ◂ token_at keyword ◂ token_at opening ◂ ((read_value_range first ◂ read_value_range_rest others) ◂ read_separators read_token others) ◂ token_at closing
   read_operation level t = no_more
 
   pub read_dimension : Tree → Outline
@@ -94,14 +88,10 @@ mutual
 
   pub read_postfix : Tree → Outline
   read_postfix (left select) = variant 0 ◂ read_select select
-  read_postfix (right (left arguments)) = variant 1 ◂ read_argument_list arguments
-  read_postfix (right (right (left (pair (leaf apostrophe) (pair (leaf opening) (pair value (leaf closing))))))) = variant 2 ◂ token_at apostrophe ◂ token_at opening ◂ read_expr 13 value ◂ token_at closing
-  read_postfix (right (right (right pattern))) = variant 3 ◂ read_pattern pattern
+  read_postfix (right (left (pair (leaf opening) (pair (pair first others) (leaf closing))))) = variant 1 ◂ token_at opening ◂ ((read_arg first ◂ read_argument_rest others) ◂ read_separators read_token others) ◂ token_at closing
+  read_postfix (right (right (left (pair (leaf apostrophe) (pair (leaf opening) (pair value_value (leaf closing))))))) = variant 2 ◂ token_at apostrophe ◂ token_at opening ◂ read_expr 13 value_value ◂ token_at closing
+  read_postfix (right (right (right (pair (leaf opening) (pair first (pair others (leaf closing))))))) = variant 3 ◂ token_at opening ◂ ((read_pattern_item first ◂ read_pattern_item_rest others) ◂ read_separators read_token others) ◂ token_at closing
   read_postfix t = no_more
-
-  pub read_argument_list : Tree → Outline
-  read_argument_list (pair (leaf opening) (pair (pair first others) (leaf closing))) = token_at opening ◂ read_arg first ◂ read_next_argument_row others ◂ token_at closing
-  read_argument_list t = no_more
 
   pub read_arg : Tree → Outline
   read_arg (left (leaf token)) = variant 0 ◂ token_at token
@@ -117,20 +107,12 @@ mutual
   read_value_range (right value) = variant 1 ◂ read_expr 13 value
   read_value_range t = no_more
 
-  pub read_pattern : Tree → Outline
-  read_pattern (pair (leaf opening) (pair first (pair others (leaf closing)))) = token_at opening ◂ read_pattern_item first ◂ read_next_pattern_item_row others ◂ token_at closing
-  read_pattern t = no_more
-
   pub read_pattern_item : Tree → Outline
   read_pattern_item (left (pair (leaf keyword) (pair (leaf colon) value))) = variant 0 ◂ token_at keyword ◂ token_at colon ◂ read_expr 13 value
   read_pattern_item (right (pair value (right none))) = variant 1 ◂ read_expr 13 value
   read_pattern_item (right (pair key (left (left (pair (leaf colon) value))))) = variant 2 ◂ read_expr 13 key ◂ token_at colon ◂ read_expr 13 value
-  read_pattern_item (right (pair count (left (right (pair (leaf opening) (pair first (pair others (leaf closing)))))))) = variant 3 ◂ read_expr 13 count ◂ token_at opening ◂ read_expr 13 first ◂ read_next_expression_row others ◂ token_at closing
+  read_pattern_item (right (pair count (left (right (pair (leaf opening) (pair first (pair others (leaf closing)))))))) = variant 3 ◂ read_expr 13 count ◂ token_at opening ◂ ((read_expr 13 first ◂ read_expression_rest others) ◂ read_separators read_token others) ◂ token_at closing
   read_pattern_item t = no_more
-
-  pub read_next_expression_row : Tree → Outline
-  read_next_expression_row (turn (pair (leaf comma) value) rest) = (token_at comma ◂ read_expr 13 value) ◂ read_next_expression_row rest
-  read_next_expression_row t = no_more
 
   pub read_range_select_row : Tree → Outline
   read_range_select_row (turn (pair (leaf opening) (pair range (leaf closing))) rest) = (token_at opening ◂ read_range range ◂ token_at closing) ◂ read_range_select_row rest
@@ -152,17 +134,21 @@ mutual
   read_operation_row level (turn operation rest) = read_operation level operation ◂ read_operation_row level rest
   read_operation_row level t = no_more
 
-  pub read_next_value_range_row : Tree → Outline
-  read_next_value_range_row (turn (pair (leaf comma) range) rest) = (token_at comma ◂ read_value_range range) ◂ read_next_value_range_row rest
-  read_next_value_range_row t = no_more
+  pub read_expression_rest : Tree → Outline
+  read_expression_rest (turn (pair separator item) rest) = read_expr 13 item ◂ read_expression_rest rest
+  read_expression_rest t = no_more
 
-  pub read_next_argument_row : Tree → Outline
-  read_next_argument_row (turn (pair (leaf comma) argument) rest) = (token_at comma ◂ read_arg argument) ◂ read_next_argument_row rest
-  read_next_argument_row t = no_more
+  pub read_value_range_rest : Tree → Outline
+  read_value_range_rest (turn (pair separator item) rest) = read_value_range item ◂ read_value_range_rest rest
+  read_value_range_rest t = no_more
 
-  pub read_next_pattern_item_row : Tree → Outline
-  read_next_pattern_item_row (turn (pair (leaf comma) item) rest) = (token_at comma ◂ read_pattern_item item) ◂ read_next_pattern_item_row rest
-  read_next_pattern_item_row t = no_more
+  pub read_argument_rest : Tree → Outline
+  read_argument_rest (turn (pair separator item) rest) = read_arg item ◂ read_argument_rest rest
+  read_argument_rest t = no_more
+
+  pub read_pattern_item_rest : Tree → Outline
+  read_pattern_item_rest (turn (pair separator item) rest) = read_pattern_item item ◂ read_pattern_item_rest rest
+  read_pattern_item_rest t = no_more
 
 -- what is read at its own level is read alike at each level above
 pub lowered : (n h : ℕ) (t : Tree) (o : Outline) → IsWhole (raise n h t) → (IsWhole t → read_expr h t ≡ o) → read_expr n (raise n h t) ≡ o
@@ -222,8 +208,8 @@ level_above is_binary_operator.LogicalAnd = omega arith
 level_above is_binary_operator.LogicalOr = omega arith
 
 operation_above : (x : Operation) → 0 < operation_level x
-operation_above (is_operation.Binary operator at r) = level_above operator
-operation_above (is_operation.Inside' keyword opening first _ others closing) = omega arith
+operation_above (is_operation.Binary operator r) = level_above operator.kind
+operation_above (is_operation.Inside' keyword opening _ ranges commas closing) = omega arith
 
 -- a chain whose operations are all of its level is read at that level
 chain_read : (b : Bool) (level h : ℕ) (t x u : Tree) (f o r : Outline) → 0 < level → IsWhole (in_place b (pair (raise (level - 1) h t) (turn x u))) → (IsWhole t → read_expr h t ≡ f) → (IsWhole x → read_operation level x ≡ o) → (b ≡ true → IsWhole u → read_operation_row level u ≡ r) → read_expr level (in_place b (pair (raise (level - 1) h t) (turn x u))) ≡ (variant 18 ◂ f ◂ o ◂ r)
@@ -234,38 +220,43 @@ chain_read true (suc n) h t x u f o r p w kf ko kr =
     refl ◃ subst (λ (k : ℕ). IsWhole (raise k h t) → read_expr n (raise k h t) ≡ f) e (λ v. lowered n h t f v kf) w.0 ◃ ko w.1.0 ◃ kr refl w.1.1
 chain_read false level h t x u f o r p w kf ko kr = absurd w.2
 
+-- an implication's operator is read with it
+implication_read : (n : ℕ) (k : ImplicationOperator) (i : ℕ) (l r : Tree) → read_expr (suc n) (pair l (left (pair (implication_operator_tree k i) r))) ≡ (variant 20 ◂ read_expr n l ◂ (variant (implication_operator_place k) ◂ token_at i) ◂ read_expr 13 r)
+unfolding read_expr
+implication_read n is_implication_operator.Implies i l r = refl
+implication_read n is_implication_operator.Equivalent i l r = refl
+
 mutual
-  unfolding own expr_outline read_expr raise
+  unfolding own expr_outline read_expr raise first_tree others_tree further_tree rest_tree repeated_tree
 
   pub own_read : (x : Expr) → IsWhole (own x) → read_expr (height x) (own x) ≡ expr_outline x
-  own_read (is_expr.Decimal token) w = refl ◃ refl
-  own_read (is_expr.Sized size based) w = refl ◃ refl ◃ refl
-  own_read (is_expr.SizeCast' size apostrophe opening _ value closing) w = refl ◃ refl ◃ refl ◃ refl ◃ lowered 13 (height value) (own value) (expr_outline value) w.1.1.1.0 (λ u. own_read value u) ◃ refl
-  own_read (is_expr.Based token) w = refl ◃ refl
-  own_read (is_expr.Unbased token) w = refl ◃ refl
-  own_read (is_expr.Text token) w = refl ◃ refl
+  own_read (is_expr.Decimal token) w = refl
+  own_read (is_expr.Sized size based) w = refl
+  own_read (is_expr.SizeCast' size apostrophe opening _ value_value closing) w = refl ◃ refl ◃ refl ◃ refl ◃ lowered 13 (height value_value) (own value_value) (expr_outline value_value) w.1.1.1.0 (λ u. own_read value_value u) ◃ refl
+  own_read (is_expr.Based token) w = refl
+  own_read (is_expr.Unbased token) w = refl
+  own_read (is_expr.Text token) w = refl
   own_read (is_expr.Parenthesized' opening _ value closing) w = refl ◃ refl ◃ lowered 13 (height value) (own value) (expr_outline value) w.0.1.0 (λ u. own_read value u) ◃ refl
-  own_read (is_expr.ParenthesizedCast' opening _ value closing apostrophe cast_opening _ cast_value cast_closing) w = refl ◃ (refl ◃ lowered 13 (height value) (own value) (expr_outline value) w.0.1.0 (λ u. own_read value u) ◃ refl) ◃ refl ◃ refl ◃ lowered 13 (height cast_value) (own cast_value) (expr_outline cast_value) w.1.1.1.0 (λ u. own_read cast_value u) ◃ refl
-  own_read (is_expr.Pattern pattern) w = refl ◃ pattern_read pattern w
-  own_read (is_expr.Replication' opening _ count inner_opening _ first _ others inner_closing closing _ selects) w = refl ◃ refl ◃ lowered 13 (height count) (own count) (expr_outline count) w.1.0 (λ u. own_read count u) ◃ refl ◃ lowered 13 (height first) (own first) (expr_outline first) w.1.1.0.1.0 (λ u. own_read first u) ◃ next_expression_row_read others w.1.1.0.1.1.0 ◃ refl ◃ refl ◃ range_select_row_read selects w.1.1.1.1
-  own_read (is_expr.Concatenation' opening _ first _ others closing _ selects) w = refl ◃ refl ◃ lowered 13 (height first) (own first) (expr_outline first) w.1.0 (λ u. own_read first u) ◃ next_expression_row_read others w.1.1.0 ◃ refl ◃ range_select_row_read selects w.1.1.1.1
-  own_read (is_expr.SignCast' sign apostrophe opening _ value closing) w = refl ◃ sign_read sign.kind sign.token ◃ refl ◃ refl ◃ lowered 13 (height value) (own value) (expr_outline value) w.1.1.1.0 (λ u. own_read value u) ◃ refl
-  own_read (is_expr.Type' keyword sign _ dimensions) w = refl ◃ integer_keyword_read keyword.kind keyword.token ◃ option_read (word_tree sign_tree) (word_outline sign_place) read_sign (λ x _. sign_read x.kind x.token) sign w.1.0 ◃ dimension_row_read dimensions w.1.1.0
-  own_read (is_expr.TypeCast' keyword sign _ dimensions apostrophe opening _ value closing) w = refl ◃ integer_keyword_read keyword.kind keyword.token ◃ option_read (word_tree sign_tree) (word_outline sign_place) read_sign (λ x _. sign_read x.kind x.token) sign w.1.0 ◃ dimension_row_read dimensions w.1.1.0 ◃ refl ◃ refl ◃ lowered 13 (height value) (own value) (expr_outline value) w.1.1.1.1.1.0 (λ u. own_read value u) ◃ refl
+  own_read (is_expr.ParenthesizedCast' opening _ value closing apostrophe cast_value_opening _ cast_value_value cast_value_closing) w = refl ◃ refl ◃ lowered 13 (height value) (own value) (expr_outline value) w.0.1.0 (λ u. own_read value u) ◃ refl ◃ refl ◃ refl ◃ lowered 13 (height cast_value_value) (own cast_value_value) (expr_outline cast_value_value) w.1.1.1.0 (λ u. own_read cast_value_value u) ◃ refl
+  own_read (is_expr.Pattern' opening _ items commas closing) w = refl ◃ refl ◃ (pattern_item_row_read items commas.items w.1.0 w.1.1.0 ◃ separators_read _ _ _ _ token_read (pattern_item_trees items) commas.items w.1.1.0) ◃ refl
+  own_read (is_expr.Replication' opening _ count inner_opening _ operands commas inner_closing closing _ selects) w = refl ◃ refl ◃ lowered 13 (height count) (own count) (expr_outline count) w.1.0 (λ u. own_read count u) ◃ refl ◃ (expression_row_read operands commas.items w.1.1.0.1.0 w.1.1.0.1.1.0 ◃ separators_read _ _ _ _ token_read (expression_trees operands) commas.items w.1.1.0.1.1.0) ◃ refl ◃ refl ◃ range_select_row_read selects w.1.1.1.1
+  own_read (is_expr.Concatenation' opening _ operands commas closing _ selects) w = refl ◃ refl ◃ (expression_row_read operands commas.items w.1.0 w.1.1.0 ◃ separators_read _ _ _ _ token_read (expression_trees operands) commas.items w.1.1.0) ◃ refl ◃ range_select_row_read selects w.1.1.1.1
+  own_read (is_expr.SignCast' sign apostrophe opening _ value_value closing) w = refl ◃ mark_read _ _ _ sign_marked sign w.0 ◃ refl ◃ refl ◃ lowered 13 (height value_value) (own value_value) (expr_outline value_value) w.1.1.1.0 (λ u. own_read value_value u) ◃ refl
+  own_read (is_expr.Type' keyword sign _ dimensions) w = refl ◃ integer_keyword_read keyword w.0 ◃ option_read _ _ _ (mark_read _ _ _ sign_marked) sign w.1.0 ◃ dimension_row_read dimensions w.1.1.0
+  own_read (is_expr.TypeCast' keyword sign _ dimensions apostrophe opening _ value_value closing) w = refl ◃ integer_keyword_read keyword w.0 ◃ option_read _ _ _ (mark_read _ _ _ sign_marked) sign w.1.0 ◃ dimension_row_read dimensions w.1.1.0 ◃ refl ◃ refl ◃ lowered 13 (height value_value) (own value_value) (expr_outline value_value) w.1.1.1.1.1.0 (λ u. own_read value_value u) ◃ refl
   own_read (is_expr.SystemName' name _ selects) w = refl ◃ refl ◃ select_row_read selects w.1.1
-  own_read (is_expr.SystemCall' name arguments _ selects) w = refl ◃ refl ◃ argument_list_read arguments w.1.0 ◃ select_row_read selects w.1.1
+  own_read (is_expr.SystemCall' name opening _ arguments commas closing _ selects) w = refl ◃ refl ◃ refl ◃ (argument_row_read arguments commas.items w.1.0.1.0.0 w.1.0.1.0.1 ◃ separators_read _ _ _ _ token_read (argument_trees arguments) commas.items w.1.0.1.0.1) ◃ refl ◃ select_row_read selects w.1.1
   own_read (is_expr.Name' name _ postfixes) w = refl ◃ scoped_name_read name w.0 ◃ postfix_row_read postfixes w.1
-  own_read (is_expr.Unary' operator at _ operand) w = refl ◃ unary_operator_read operator at ◃ lowered 0 (height operand) (own operand) (expr_outline operand) w.1 (λ u. own_read operand u)
-  own_read (is_expr.Operations' _ first _ rest) w = operations_read (height first) (own first) (expr_outline first) (λ u. own_read first u) rest w
+  own_read (is_expr.Unary' operator _ operand) w = refl ◃ mark_read _ _ _ unary_operator_marked operator w.0 ◃ lowered 0 (height operand) (own operand) (expr_outline operand) w.1 (λ u. own_read operand u)
+  own_read (is_expr.Operations' _ first _ operations) w = operations_read (height first) (own first) (expr_outline first) (λ u. own_read first u) operations w
   own_read (is_expr.Conditional' _ condition question _ chosen colon _ otherwise) w = refl ◃ lowered 11 (height condition) (own condition) (expr_outline condition) w.0 (λ u. own_read condition u) ◃ refl ◃ lowered 13 (height chosen) (own chosen) (expr_outline chosen) w.1.1.0 (λ u. own_read chosen u) ◃ refl ◃ lowered 12 (height otherwise) (own otherwise) (expr_outline otherwise) w.1.1.1.1 (λ u. own_read otherwise u)
-  own_read (is_expr.Implication' _ l is_implication_operator.Implies at _ r) w = refl ◃ lowered 12 (height l) (own l) (expr_outline l) w.0 (λ u. own_read l u) ◃ refl ◃ lowered 13 (height r) (own r) (expr_outline r) w.1.1 (λ u. own_read r u)
-  own_read (is_expr.Implication' _ l is_implication_operator.Equivalent at _ r) w = refl ◃ lowered 12 (height l) (own l) (expr_outline l) w.0 (λ u. own_read l u) ◃ refl ◃ lowered 13 (height r) (own r) (expr_outline r) w.1.1 (λ u. own_read r u)
+  own_read (is_expr.Implication' _ l operator _ r) w = implication_read 12 operator.kind operator.token (raise 12 (height l) (own l)) (raise 13 (height r) (own r)) ∙ (refl ◃ lowered 12 (height l) (own l) (expr_outline l) w.0 (λ u. own_read l u) ◃ refl ◃ lowered 13 (height r) (own r) (expr_outline r) w.1.1 (λ u. own_read r u))
 
   pub operation_read : (x : Operation) → IsWhole (operation_tree x) → read_operation (operation_level x) (operation_tree x) ≡ operation_outline x
-  operation_read (is_operation.Binary operator at r) w =
-      way_read (eqb (level_of operator) 5) (level_of operator) (binary_operator_tree operator at) (raise (level_of operator - 1) (height r) (own r))
-      ∙ (refl ◃ binary_operator_read operator at ◃ lowered (level_of operator - 1) (height r) (own r) (expr_outline r) (way_whole (eqb (level_of operator) 5) (binary_operator_tree operator at) (raise (level_of operator - 1) (height r) (own r)) w) (λ u. own_read r u))
-  operation_read (is_operation.Inside' keyword opening first _ others closing) w = refl ◃ refl ◃ refl ◃ value_range_read first w.1.1.0 ◃ next_value_range_row_read others w.1.1.1.0 ◃ refl
+  operation_read (is_operation.Binary operator r) w =
+      way_read (eqb (level_of operator.kind) 5) (level_of operator.kind) (mark_tree binary_operator_tree operator) (raise (level_of operator.kind - 1) (height r) (own r))
+      ∙ (refl ◃ (binary_operator_said operator.kind operator.token).1 ◃ lowered (level_of operator.kind - 1) (height r) (own r) (expr_outline r) (way_whole (eqb (level_of operator.kind) 5) (mark_tree binary_operator_tree operator) (raise (level_of operator.kind - 1) (height r) (own r)) w) (λ u. own_read r u))
+  operation_read (is_operation.Inside' keyword opening _ ranges commas closing) w = refl ◃ refl ◃ refl ◃ (value_range_row_read ranges commas.items w.1.1.0 w.1.1.1.0 ◃ separators_read _ _ _ _ token_read (value_range_trees ranges) commas.items w.1.1.1.0) ◃ refl
 
   pub dimension_read : (x : Dimension) → IsWhole (dimension_tree x) → read_dimension (dimension_tree x) ≡ dimension_outline x
   dimension_read (is_dimension.Size' opening _ size closing) w = refl ◃ refl ◃ lowered 13 (height size) (own size) (expr_outline size) w.1.0 (λ u. own_read size u) ◃ refl
@@ -278,22 +269,19 @@ mutual
   range_read (is_range.Downward' _ from at _ width) w = refl ◃ lowered 13 (height from) (own from) (expr_outline from) w.0 (λ u. own_read from u) ◃ refl ◃ lowered 13 (height width) (own width) (expr_outline width) w.1.1 (λ u. own_read width u)
 
   pub select_read : (x : Select) → IsWhole (select_tree x) → read_select (select_tree x) ≡ select_outline x
-  select_read (is_select.Member dot name) w = refl ◃ refl ◃ refl
+  select_read (is_select.Member dot name) w = refl
   select_read (is_select.Range' opening range closing) w = refl ◃ refl ◃ range_read range w.1.0 ◃ refl
 
   pub postfix_read : (x : Postfix) → IsWhole (postfix_tree x) → read_postfix (postfix_tree x) ≡ postfix_outline x
   postfix_read (is_postfix.Select select) w = refl ◃ select_read select w
-  postfix_read (is_postfix.Call arguments) w = refl ◃ argument_list_read arguments w
-  postfix_read (is_postfix.Cast' apostrophe opening _ value closing) w = refl ◃ refl ◃ refl ◃ lowered 13 (height value) (own value) (expr_outline value) w.1.1.0 (λ u. own_read value u) ◃ refl
-  postfix_read (is_postfix.Pattern pattern) w = refl ◃ pattern_read pattern w
-
-  pub argument_list_read : (x : ArgumentList) → IsWhole (argument_list_tree x) → read_argument_list (argument_list_tree x) ≡ argument_list_outline x
-  argument_list_read (ArgumentList' opening first _ others closing) w = refl ◃ arg_read first w.1.0.0 ◃ next_argument_row_read others w.1.0.1 ◃ refl
+  postfix_read (is_postfix.Call' opening _ arguments commas closing) w = refl ◃ refl ◃ (argument_row_read arguments commas.items w.1.0.0 w.1.0.1 ◃ separators_read _ _ _ _ token_read (argument_trees arguments) commas.items w.1.0.1) ◃ refl
+  postfix_read (is_postfix.Cast' apostrophe opening _ value_value closing) w = refl ◃ refl ◃ refl ◃ lowered 13 (height value_value) (own value_value) (expr_outline value_value) w.1.1.0 (λ u. own_read value_value u) ◃ refl
+  postfix_read (is_postfix.Pattern' opening _ items commas closing) w = refl ◃ refl ◃ (pattern_item_row_read items commas.items w.1.0 w.1.1.0 ◃ separators_read _ _ _ _ token_read (pattern_item_trees items) commas.items w.1.1.0) ◃ refl
 
   pub arg_read : (x : Arg) → IsWhole (arg_tree x) → read_arg (arg_tree x) ≡ arg_outline x
-  arg_read (is_arg.Wildcard token) w = refl ◃ refl
-  arg_read (is_arg.Implicit dot name) w = refl ◃ refl ◃ refl
-  arg_read (is_arg.Unconnected dot name opening closing) w = refl ◃ refl ◃ refl ◃ refl ◃ refl
+  arg_read (is_arg.Wildcard token) w = refl
+  arg_read (is_arg.Implicit dot name) w = refl
+  arg_read (is_arg.Unconnected dot name opening closing) w = refl
   arg_read (is_arg.Named' dot name opening _ value closing) w = refl ◃ refl ◃ refl ◃ refl ◃ lowered 13 (height value) (own value) (expr_outline value) w.1.1.1.0 (λ u. own_read value u) ◃ refl
   arg_read (is_arg.Ordered' _ value) w = refl ◃ lowered 13 (height value) (own value) (expr_outline value) w (λ u. own_read value u)
   arg_read is_arg.Empty w = refl
@@ -302,18 +290,11 @@ mutual
   value_range_read (is_value_range.Between' opening _ low colon _ high closing) w = refl ◃ refl ◃ lowered 13 (height low) (own low) (expr_outline low) w.1.0 (λ u. own_read low u) ◃ refl ◃ lowered 13 (height high) (own high) (expr_outline high) w.1.1.1.0 (λ u. own_read high u) ◃ refl
   value_range_read (is_value_range.Value' _ value) w = refl ◃ lowered 13 (height value) (own value) (expr_outline value) w (λ u. own_read value u)
 
-  pub pattern_read : (x : Pattern) → IsWhole (pattern_tree x) → read_pattern (pattern_tree x) ≡ pattern_outline x
-  pattern_read (Pattern' opening first _ others closing) w = refl ◃ pattern_item_read first w.1.0 ◃ next_pattern_item_row_read others w.1.1.0 ◃ refl
-
   pub pattern_item_read : (x : PatternItem) → IsWhole (pattern_item_tree x) → read_pattern_item (pattern_item_tree x) ≡ pattern_item_outline x
   pattern_item_read (is_pattern_item.Default' keyword colon _ value) w = refl ◃ refl ◃ refl ◃ lowered 13 (height value) (own value) (expr_outline value) w.1.1 (λ u. own_read value u)
   pattern_item_read (is_pattern_item.Value' _ value) w = refl ◃ lowered 13 (height value) (own value) (expr_outline value) w.0 (λ u. own_read value u)
   pattern_item_read (is_pattern_item.Keyed' _ key colon _ value) w = refl ◃ lowered 13 (height key) (own key) (expr_outline key) w.0 (λ u. own_read key u) ◃ refl ◃ lowered 13 (height value) (own value) (expr_outline value) w.1.1 (λ u. own_read value u)
-  pattern_item_read (is_pattern_item.Repeated' _ count opening _ first _ others closing) w = refl ◃ lowered 13 (height count) (own count) (expr_outline count) w.0 (λ u. own_read count u) ◃ refl ◃ lowered 13 (height first) (own first) (expr_outline first) w.1.1.0 (λ u. own_read first u) ◃ next_expression_row_read others w.1.1.1.0 ◃ refl
-
-  pub next_expression_row_read : {n : _} (row : Row_of-NextExpression n) → IsWhole (next_expression_row row) → read_next_expression_row (next_expression_row row) ≡ next_expression_row_outline row
-  next_expression_row_read end_of-NextExpression w = refl
-  next_expression_row_read (more_of-NextExpression comma value rest) w = (refl ◃ lowered 13 (height value) (own value) (expr_outline value) w.0.1 (λ u. own_read value u)) ◃ next_expression_row_read rest w.1
+  pattern_item_read (is_pattern_item.Repeated' _ count opening _ values commas closing) w = refl ◃ lowered 13 (height count) (own count) (expr_outline count) w.0 (λ u. own_read count u) ◃ refl ◃ (expression_row_read values commas.items w.1.1.0 w.1.1.1.0 ◃ separators_read _ _ _ _ token_read (expression_trees values) commas.items w.1.1.1.0) ◃ refl
 
   pub range_select_row_read : {n : _} (row : Row_of-RangeSelect n) → IsWhole (range_select_row row) → read_range_select_row (range_select_row row) ≡ range_select_row_outline row
   range_select_row_read end_of-RangeSelect w = refl
@@ -342,56 +323,86 @@ mutual
       let b = both_true (eqb (operation_level operation) level) (row_of_level level rest) e in
       subst (λ (k : ℕ). read_operation k (operation_tree operation) ≡ operation_outline operation) (eqb-true (operation_level operation) level b.0) (operation_read operation w.0) ◃ operation_row_read level rest b.1 w.1
 
-  pub next_value_range_row_read : {n : _} (row : Row_of-NextValueRange n) → IsWhole (next_value_range_row row) → read_next_value_range_row (next_value_range_row row) ≡ next_value_range_row_outline row
-  next_value_range_row_read end_of-NextValueRange w = refl
-  next_value_range_row_read (more_of-NextValueRange comma range rest) w = (refl ◃ value_range_read range w.0.1) ◃ next_value_range_row_read rest w.1
+  pub expression_row_read : {n : _} (row : Row_of-Expr n) (ss : List ℕ) → IsWhole (first_of (expression_trees row)) → IsWhole (further_of (expression_trees row) ss) → (read_expr 13 (first_of (expression_trees row)) ◂ read_expression_rest (further_of (expression_trees row) ss)) ≡ expression_row_outline row
+  expression_row_read end_of-Expr ss w v = absurd w.2
+  expression_row_read (more_of-Expr e rest) ss w v = lowered 13 (height e) (own e) (expr_outline e) w (λ u. own_read e u) ◃ expression_rest_read rest ss v
 
-  pub next_argument_row_read : {n : _} (row : Row_of-NextArgument n) → IsWhole (next_argument_row row) → read_next_argument_row (next_argument_row row) ≡ next_argument_row_outline row
-  next_argument_row_read end_of-NextArgument w = refl
-  next_argument_row_read (more_of-NextArgument comma argument rest) w = (refl ◃ arg_read argument w.0.1) ◃ next_argument_row_read rest w.1
+  pub expression_rest_read : {n : _} (row : Row_of-Expr n) (ss : List ℕ) → IsWhole (rest_tree (λ (t : Tree). t) leaf (expression_trees row) ss) → read_expression_rest (rest_tree (λ (t : Tree). t) leaf (expression_trees row) ss) ≡ expression_row_outline row
+  expression_rest_read end_of-Expr [] w = refl
+  expression_rest_read end_of-Expr (s ∷ ss) w = absurd w.2
+  expression_rest_read (more_of-Expr e rest) [] w = absurd w.2
+  expression_rest_read (more_of-Expr e rest) (s ∷ ss) w = lowered 13 (height e) (own e) (expr_outline e) w.0.1 (λ u. own_read e u) ◃ expression_rest_read rest ss w.1
 
-  pub next_pattern_item_row_read : {n : _} (row : Row_of-NextPatternItem n) → IsWhole (next_pattern_item_row row) → read_next_pattern_item_row (next_pattern_item_row row) ≡ next_pattern_item_row_outline row
-  next_pattern_item_row_read end_of-NextPatternItem w = refl
-  next_pattern_item_row_read (more_of-NextPatternItem comma item rest) w = (refl ◃ pattern_item_read item w.0.1) ◃ next_pattern_item_row_read rest w.1
+  pub value_range_row_read : {n : _} (row : Row_of-ValueRange n) (ss : List ℕ) → IsWhole (first_of (value_range_trees row)) → IsWhole (further_of (value_range_trees row) ss) → (read_value_range (first_of (value_range_trees row)) ◂ read_value_range_rest (further_of (value_range_trees row) ss)) ≡ value_range_row_outline row
+  value_range_row_read end_of-ValueRange ss w v = absurd w.2
+  value_range_row_read (more_of-ValueRange range rest) ss w v = value_range_read range w ◃ value_range_rest_read rest ss v
 
--- ---- an expression at a level
+  pub value_range_rest_read : {n : _} (row : Row_of-ValueRange n) (ss : List ℕ) → IsWhole (rest_tree (λ (t : Tree). t) leaf (value_range_trees row) ss) → read_value_range_rest (rest_tree (λ (t : Tree). t) leaf (value_range_trees row) ss) ≡ value_range_row_outline row
+  value_range_rest_read end_of-ValueRange [] w = refl
+  value_range_rest_read end_of-ValueRange (s ∷ ss) w = absurd w.2
+  value_range_rest_read (more_of-ValueRange range rest) [] w = absurd w.2
+  value_range_rest_read (more_of-ValueRange range rest) (s ∷ ss) w = value_range_read range w.0.1 ◃ value_range_rest_read rest ss w.1
+
+  pub argument_row_read : {n : _} (row : Row_of-Arg n) (ss : List ℕ) → IsWhole (first_of (argument_trees row)) → IsWhole (further_of (argument_trees row) ss) → (read_arg (first_of (argument_trees row)) ◂ read_argument_rest (further_of (argument_trees row) ss)) ≡ argument_row_outline row
+  argument_row_read end_of-Arg ss w v = absurd w.2
+  argument_row_read (more_of-Arg argument rest) ss w v = arg_read argument w ◃ argument_rest_read rest ss v
+
+  pub argument_rest_read : {n : _} (row : Row_of-Arg n) (ss : List ℕ) → IsWhole (rest_tree (λ (t : Tree). t) leaf (argument_trees row) ss) → read_argument_rest (rest_tree (λ (t : Tree). t) leaf (argument_trees row) ss) ≡ argument_row_outline row
+  argument_rest_read end_of-Arg [] w = refl
+  argument_rest_read end_of-Arg (s ∷ ss) w = absurd w.2
+  argument_rest_read (more_of-Arg argument rest) [] w = absurd w.2
+  argument_rest_read (more_of-Arg argument rest) (s ∷ ss) w = arg_read argument w.0.1 ◃ argument_rest_read rest ss w.1
+
+  pub pattern_item_row_read : {n : _} (row : Row_of-PatternItem n) (ss : List ℕ) → IsWhole (first_of (pattern_item_trees row)) → IsWhole (further_of (pattern_item_trees row) ss) → (read_pattern_item (first_of (pattern_item_trees row)) ◂ read_pattern_item_rest (further_of (pattern_item_trees row) ss)) ≡ pattern_item_row_outline row
+  pattern_item_row_read end_of-PatternItem ss w v = absurd w.2
+  pattern_item_row_read (more_of-PatternItem item rest) ss w v = pattern_item_read item w ◃ pattern_item_rest_read rest ss v
+
+  pub pattern_item_rest_read : {n : _} (row : Row_of-PatternItem n) (ss : List ℕ) → IsWhole (rest_tree (λ (t : Tree). t) leaf (pattern_item_trees row) ss) → read_pattern_item_rest (rest_tree (λ (t : Tree). t) leaf (pattern_item_trees row) ss) ≡ pattern_item_row_outline row
+  pattern_item_rest_read end_of-PatternItem [] w = refl
+  pattern_item_rest_read end_of-PatternItem (s ∷ ss) w = absurd w.2
+  pattern_item_rest_read (more_of-PatternItem item rest) [] w = absurd w.2
+  pattern_item_rest_read (more_of-PatternItem item rest) (s ∷ ss) w = pattern_item_read item w.0.1 ◃ pattern_item_rest_read rest ss w.1
+
+-- an expression at a level
 
 pub expr_read : (level : ℕ) (e : Expr) → IsWhole (tree_at level e) → read_expr level (tree_at level e) ≡ expr_outline e
 expr_read level e w = lowered level (height e) (own e) (expr_outline e) w (λ u. own_read e u)
 
 pub read_expression : Tree → Outline
-read_expression t = read_expr 13 t
+read_expression e = read_expr 13 e
 
-pub expression_read : (x : Box Expr) → IsWhole (expression_tree x) → read_expression (expression_tree x) ≡ expression_outline x
+pub expression_read : IsRead expression_tree expression_outline read_expression
 unfolding read_expression
-expression_read x w = expr_read 13 x.value w
-
--- ---- parenthesized
+expression_read e w = expr_read 13 e.value w
 
 pub read_parenthesized : Tree → Outline
-read_parenthesized (pair (leaf opening) (pair x (leaf closing))) = token_at opening ◂ read_expr 13 x ◂ token_at closing
+read_parenthesized (pair (leaf opening) (pair value (leaf closing))) = token_at opening ◂ read_expr 13 value ◂ token_at closing
 read_parenthesized t = no_more
 
-pub parenthesized_read : (x : Parenthesized) → IsWhole (parenthesized_tree x) → read_parenthesized (parenthesized_tree x) ≡ parenthesized_outline x
+pub parenthesized_read : IsRead parenthesized_tree parenthesized_outline read_parenthesized
 unfolding read_parenthesized
 parenthesized_read x w = refl ◃ expr_read 13 x.value.value w.1.0 ◃ refl
 
--- ---- cast
-
 pub read_cast : Tree → Outline
-read_cast (pair (leaf apostrophe) x) = token_at apostrophe ◂ read_parenthesized x
+read_cast (pair (leaf apostrophe) value) = token_at apostrophe ◂ read_parenthesized value
 read_cast t = no_more
 
-pub cast_read : (x : Cast) → IsWhole (cast_tree x) → read_cast (cast_tree x) ≡ cast_outline x
+pub cast_read : IsRead cast_tree cast_outline read_cast
 unfolding read_cast
 cast_read x w = refl ◃ parenthesized_read x.value w.1
 
--- ---- next expression
+pub read_argument_list : Tree → Outline
+read_argument_list (pair (leaf opening) (pair (pair first others) (leaf closing))) = token_at opening ◂ read_row read_arg read_token first others ◂ token_at closing
+read_argument_list t = no_more
 
-pub read_next_expression : Tree → Outline
-read_next_expression (pair (leaf comma) x) = token_at comma ◂ read_expr 13 x
-read_next_expression t = no_more
+pub argument_list_read : IsRead argument_list_tree argument_list_outline read_argument_list
+unfolding read_argument_list
+argument_list_read x w = refl ◃ row_read _ _ read_arg _ _ read_token arg_read token_read x.arguments w.1.0.0 w.1.0.1 ◃ refl
 
-pub next_expression_read : (x : NextExpression) → IsWhole (next_expression_tree x) → read_next_expression (next_expression_tree x) ≡ next_expression_outline x
-unfolding read_next_expression
-next_expression_read x w = refl ◃ expr_read 13 x.value w.1
+pub read_pattern : Tree → Outline
+read_pattern (pair (leaf opening) (pair first (pair others (leaf closing)))) = token_at opening ◂ read_row read_pattern_item read_token first others ◂ token_at closing
+read_pattern t = no_more
+
+pub pattern_read : IsRead pattern_tree pattern_outline read_pattern
+unfolding read_pattern
+pattern_read x w = refl ◃ row_read _ _ read_pattern_item _ _ read_token pattern_item_read token_read x.items w.1.0 w.1.1.0 ◃ refl

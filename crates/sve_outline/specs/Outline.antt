@@ -3,7 +3,8 @@ use Rattle.std.specs.Prelude.{◌≡◌, ℕ, List, [], ◌∷◌, Option, Some,
 use Rattle.sve_token.specs.declared.token.Token.{Token}
 use Rattle.sve_grammar.specs.Rule.{Rule}
 use Rattle.sve_grammar.specs.Reading.{Tree, pair, left, right, turn, ended, at_depth}
-use Rattle.sve_tree.specs.declared.word.Word.{Word}
+use Rattle.sve_tree.specs.declared.row.Row.{Row}
+use Rattle.sve_tree.specs.declared.word.Mark.{Mark}
 
 infixr 30 ◌◂◌
 pub data Outline : Type 0 where
@@ -26,9 +27,13 @@ abbrev pub option_outline : {X : Type 0} → (X → Outline) → Option X → Ou
 option_outline f None = variant 0
 option_outline f (Some x) = variant 1 ◂ f x
 
+-- a row: its items, and its separators
+abbrev pub row_outline : {X S : Type 0} → (X → Outline) → (S → Outline) → Row X S → Outline
+row_outline f g row = list_outline f row.items.items ◂ list_outline g row.separators.items
+
 -- a token that says which of several things is meant
-abbrev pub word_outline : {K : Type 0} → (K → ℕ) → Word K → Outline
-word_outline place w = variant (place w.kind) ◂ token_at w.token
+abbrev pub mark_outline : {K : Type 0} → (K → ℕ) → Mark K → Outline
+mark_outline place m = variant (place m.kind) ◂ token_at m.token
 
 -- a turn of a repetition, or its end
 abbrev pub IsRepetition : Tree → Type 0

@@ -1,52 +1,51 @@
 -- The places of what a token can say, and what names say (IEEE 1800-2017, A.8.6, A.2.2.1, A.1.3, A.9.3).
 use Rattle.std.specs.Prelude.{ℕ, ◌+◌}
-use Rattle.sve_tree.specs.declared.word.Sign.{Sign}
-use Rattle.sve_tree.specs.declared.word.Lifetime.{Lifetime}
-use Rattle.sve_tree.specs.declared.word.Net.{Net}
-use Rattle.sve_tree.specs.declared.word.AtomKeyword.{AtomKeyword}
-use Rattle.sve_tree.specs.declared.word.VectorKeyword.{VectorKeyword}
-use Rattle.sve_tree.specs.declared.word.IntegerKeyword.{IntegerKeyword}
-use Rattle.sve_tree.specs.declared.word.ParameterKeyword.{ParameterKeyword}
-use Rattle.sve_tree.specs.declared.word.UnaryOperator.{UnaryOperator}
-use Rattle.sve_tree.specs.declared.word.BinaryOperator.{BinaryOperator}
-use Rattle.sve_tree.specs.declared.word.ImplicationOperator.{ImplicationOperator}
+use Rattle.sve_bytes.specs.declared.direction.Dir.{Dir}
+use Rattle.sve_outline.specs.Outline.{Outline, option_outline, token_at, ◌◂◌}
 use Rattle.sve_tree.specs.declared.word.AssignmentOperator.{AssignmentOperator}
-use Rattle.sve_tree.specs.declared.word.StepOperator.{StepOperator}
-use Rattle.sve_tree.specs.declared.word.ScopedName.{ScopedName}
-use Rattle.sve_tree.specs.declared.word.ScopeMember.{ScopeMember}
-use Rattle.sve_tree.specs.declared.word.Label.{Label}
-use Rattle.sve_tree.specs.declared.word.NextName.{NextName}
-use Rattle.sve_tree.specs.declared.word.Uniqueness.{Uniqueness}
+use Rattle.sve_tree.specs.declared.word.AtomKeyword.{AtomKeyword}
+use Rattle.sve_tree.specs.declared.word.BinaryOperator.{BinaryOperator}
 use Rattle.sve_tree.specs.declared.word.CaseKeyword.{CaseKeyword}
-use Rattle.sve_tree.specs.declared.word.LoopKeyword.{LoopKeyword}
 use Rattle.sve_tree.specs.declared.word.ClockedKeyword.{ClockedKeyword}
-use Rattle.sve_tree.specs.declared.word.PlainKeyword.{PlainKeyword}
 use Rattle.sve_tree.specs.declared.word.Edge.{Edge}
 use Rattle.sve_tree.specs.declared.word.EventSeparator.{EventSeparator}
+use Rattle.sve_tree.specs.declared.word.ImplicationOperator.{ImplicationOperator}
+use Rattle.sve_tree.specs.declared.word.IntegerKeyword.{IntegerKeyword}
+use Rattle.sve_tree.specs.declared.word.Label.{Label}
+use Rattle.sve_tree.specs.declared.word.Lifetime.{Lifetime}
+use Rattle.sve_tree.specs.declared.word.LoopKeyword.{LoopKeyword}
 use Rattle.sve_tree.specs.declared.word.ModuleKeyword.{ModuleKeyword}
-use Rattle.sve_bytes.specs.declared.direction.Dir.{Dir}
-use Rattle.sve_outline.specs.Outline.{Outline, token_at, ◌◂◌, option_outline}
-use Rattle.sve_tree.specs.declared.word.Sign.TheVariants as is_sign
-use Rattle.sve_tree.specs.declared.word.Lifetime.TheVariants as is_lifetime
-use Rattle.sve_tree.specs.declared.word.Net.TheVariants as is_net
-use Rattle.sve_tree.specs.declared.word.AtomKeyword.TheVariants as is_atom_keyword
-use Rattle.sve_tree.specs.declared.word.VectorKeyword.TheVariants as is_vector_keyword
-use Rattle.sve_tree.specs.declared.word.IntegerKeyword.TheVariants as is_integer_keyword
-use Rattle.sve_tree.specs.declared.word.ParameterKeyword.TheVariants as is_parameter_keyword
-use Rattle.sve_tree.specs.declared.word.UnaryOperator.TheVariants as is_unary_operator
-use Rattle.sve_tree.specs.declared.word.BinaryOperator.TheVariants as is_binary_operator
-use Rattle.sve_tree.specs.declared.word.ImplicationOperator.TheVariants as is_implication_operator
+use Rattle.sve_tree.specs.declared.word.Net.{Net}
+use Rattle.sve_tree.specs.declared.word.PackageScope.{PackageScope}
+use Rattle.sve_tree.specs.declared.word.ParameterKeyword.{ParameterKeyword}
+use Rattle.sve_tree.specs.declared.word.PlainKeyword.{PlainKeyword}
+use Rattle.sve_tree.specs.declared.word.ScopedName.{ScopedName}
+use Rattle.sve_tree.specs.declared.word.Sign.{Sign}
+use Rattle.sve_tree.specs.declared.word.StepOperator.{StepOperator}
+use Rattle.sve_tree.specs.declared.word.UnaryOperator.{UnaryOperator}
+use Rattle.sve_tree.specs.declared.word.Uniqueness.{Uniqueness}
+use Rattle.sve_tree.specs.declared.word.VectorKeyword.{VectorKeyword}
 use Rattle.sve_tree.specs.declared.word.AssignmentOperator.TheVariants as is_assignment_operator
-use Rattle.sve_tree.specs.declared.word.StepOperator.TheVariants as is_step_operator
-use Rattle.sve_tree.specs.declared.word.Uniqueness.TheVariants as is_uniqueness
+use Rattle.sve_tree.specs.declared.word.AtomKeyword.TheVariants as is_atom_keyword
+use Rattle.sve_tree.specs.declared.word.BinaryOperator.TheVariants as is_binary_operator
 use Rattle.sve_tree.specs.declared.word.CaseKeyword.TheVariants as is_case_keyword
-use Rattle.sve_tree.specs.declared.word.LoopKeyword.TheVariants as is_loop_keyword
 use Rattle.sve_tree.specs.declared.word.ClockedKeyword.TheVariants as is_clocked_keyword
-use Rattle.sve_tree.specs.declared.word.PlainKeyword.TheVariants as is_plain_keyword
+use Rattle.sve_bytes.specs.declared.direction.Dir.TheVariants as is_dir
 use Rattle.sve_tree.specs.declared.word.Edge.TheVariants as is_edge
 use Rattle.sve_tree.specs.declared.word.EventSeparator.TheVariants as is_event_separator
+use Rattle.sve_tree.specs.declared.word.ImplicationOperator.TheVariants as is_implication_operator
+use Rattle.sve_tree.specs.declared.word.IntegerKeyword.TheVariants as is_integer_keyword
+use Rattle.sve_tree.specs.declared.word.Lifetime.TheVariants as is_lifetime
+use Rattle.sve_tree.specs.declared.word.LoopKeyword.TheVariants as is_loop_keyword
 use Rattle.sve_tree.specs.declared.word.ModuleKeyword.TheVariants as is_module_keyword
-use Rattle.sve_bytes.specs.declared.direction.Dir.TheVariants as is_dir
+use Rattle.sve_tree.specs.declared.word.Net.TheVariants as is_net
+use Rattle.sve_tree.specs.declared.word.ParameterKeyword.TheVariants as is_parameter_keyword
+use Rattle.sve_tree.specs.declared.word.PlainKeyword.TheVariants as is_plain_keyword
+use Rattle.sve_tree.specs.declared.word.Sign.TheVariants as is_sign
+use Rattle.sve_tree.specs.declared.word.StepOperator.TheVariants as is_step_operator
+use Rattle.sve_tree.specs.declared.word.UnaryOperator.TheVariants as is_unary_operator
+use Rattle.sve_tree.specs.declared.word.Uniqueness.TheVariants as is_uniqueness
+use Rattle.sve_tree.specs.declared.word.VectorKeyword.TheVariants as is_vector_keyword
 
 abbrev pub sign_place : Sign → ℕ
 sign_place is_sign.Signed = 0
@@ -156,18 +155,6 @@ abbrev pub step_operator_place : StepOperator → ℕ
 step_operator_place is_step_operator.Increment = 0
 step_operator_place is_step_operator.Decrement = 1
 
-abbrev pub scope_member_outline : ScopeMember → Outline
-scope_member_outline x = token_at x.colons ◂ token_at x.name
-
-abbrev pub scoped_name_outline : ScopedName → Outline
-scoped_name_outline x = token_at x.first ◂ option_outline scope_member_outline x.member
-
-abbrev pub label_outline : Label → Outline
-label_outline x = token_at x.colon ◂ token_at x.name
-
-abbrev pub next_name_outline : NextName → Outline
-next_name_outline x = token_at x.comma ◂ token_at x.name
-
 abbrev pub uniqueness_place : Uniqueness → ℕ
 uniqueness_place is_uniqueness.Unique = 0
 uniqueness_place is_uniqueness.Unique0 = 1
@@ -208,3 +195,12 @@ abbrev pub dir_place : Dir → ℕ
 dir_place is_dir.Input = 0
 dir_place is_dir.Output = 1
 dir_place is_dir.Inout = 2
+
+abbrev pub package_scope_outline : PackageScope → Outline
+package_scope_outline x = token_at x.name ◂ token_at x.colons
+
+abbrev pub scoped_name_outline : ScopedName → Outline
+scoped_name_outline x = option_outline package_scope_outline x.scope ◂ token_at x.name
+
+abbrev pub label_outline : Label → Outline
+label_outline x = token_at x.colon ◂ token_at x.name

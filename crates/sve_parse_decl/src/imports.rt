@@ -1,18 +1,16 @@
 //! Imports of a package's names (IEEE 1800-2017, 26.3 and A.2.1.3).
 
 ghost use Rattle.std.specs.Prelude.{◌≡◌, ◌<◌, ◌≤◌, ◌^◌, length, IfOk};
-ghost use Rattle.sve_token.specs.declared.kind.Kind.TheVariants.{Comma};
-ghost use Rattle.sve_grammar.specs.Reading.{at_depth};
+ghost use Rattle.sve_grammar.specs.Reading.{leaf, at_depth};
 ghost use Rattle.sve_grammar.specs.Gives.{Gives};
-ghost use Rattle.sve_grammar.specs.Rule.{tok, ◌∙◌};
 ghost use Rattle.sve_grammar.specs.Declarations.{import_item, more_import_items, import_declaration, imports};
-ghost use Rattle.sve_tree.specs.Shape.{repeated_tree};
-ghost use Rattle.sve_tree.specs.Declarations.{import_item_tree, next_import_item_tree, import_tree, decl_tree};
+ghost use Rattle.sve_tree.specs.Shape.{repeated_tree, row_rest, row_first};
+ghost use Rattle.sve_tree.specs.Declarations.{import_item_tree, import_tree, decl_tree};
 
 use std::alloc::Global;
 use sve_grammar::{Stop, accept, expect, is_kind};
 use sve_token::{Keyword, Kind, Token};
-use sve_tree::{Decl, Import, ImportItem, NextImportItem};
+use sve_tree::{Decl, Import, ImportItem, PackageScope, Row};
 
 /// A declaration of imports, and the place behind it. The tree is `Import`.
 pub fn import(alloc: Global, tokens: &[Token], from: u32, depth: u32) -> Result<(Decl, u32), Stop>
@@ -42,13 +40,12 @@ pub fn import_declaration(
 {
     let at = expect(tokens, from, Kind::Keyword(Keyword::KwImport))?;
     let (first, at) = import_item(tokens, at, depth)?;
-    let (others, semicolon) = more_import_items(alloc, tokens, at, depth)?;
+    let (items, semicolon) = more_import_items(alloc, tokens, at, depth, first)?;
     let end = expect(tokens, semicolon, Kind::Semicolon)?;
     Ok((
         Import {
             keyword: from,
-            first,
-            others,
+            items,
             semicolon,
         },
         end,
@@ -89,25 +86,12 @@ fn import_item(tokens: &[Token], from: u32, depth: u32) -> Result<(ImportItem, u
 {
     let colons = expect(tokens, from, Kind::Identifier)?;
     let at = expect(tokens, colons, Kind::ColonColon)?;
+    let scope = PackageScope { name: from, colons };
     if let Some(end) = accept(tokens, at, Kind::Identifier) {
-        return Ok((
-            ImportItem::Name {
-                scope: from,
-                colons,
-                name: at,
-            },
-            end,
-        ));
+        return Ok((ImportItem::Name { scope, name: at }, end));
     }
     if let Some(end) = accept(tokens, at, Kind::Star) {
-        return Ok((
-            ImportItem::All {
-                scope: from,
-                colons,
-                star: at,
-            },
-            end,
-        ));
+        return Ok((ImportItem::All { scope, star: at }, end));
     }
     Err(Stop::At {
         index: at,
@@ -115,38 +99,30 @@ fn import_item(tokens: &[Token], from: u32, depth: u32) -> Result<(ImportItem, u
     })
 }
 
-/// The further items of an import, and the place behind them.
+/// The further items of an import behind the first, and the place behind them.
 fn more_import_items(
     alloc: Global,
     tokens: &[Token],
     from: u32,
     depth: u32,
-) -> Result<(Vec<NextImportItem>, u32), Stop>
+    first: ImportItem,
+) -> Result<(Row<ImportItem>, u32), Stop>
     requires few { length tokens.now < 2 ^ 32 }
     requires from { from ≤ length tokens.now }
     requires depth { depth ≤ 512 }
-    ensures tree { Gives (λ x. (repeated_tree next_import_item_tree x.0.items, x.1)) result (at_depth tokens.now depth more_import_items from) }
+    ensures tree { Gives (λ x. (row_rest import_item_tree leaf x.0, x.1)) result (at_depth tokens.now depth more_import_items from) }
+    ensures first { IfOk result (λ x. row_first import_item_tree x.0 ≡ import_item_tree first) }
     ensures end { IfOk result (λ x. (from ≤ x.1) × (x.1 ≤ length tokens.now)) }
 {
     let mut items = Vec::new(alloc);
+    items.push(first)?;
+    let mut separators = Vec::new(alloc);
     let mut at = from;
-    'turns: while is_kind(tokens, at, Kind::Comma) {
-        let (item, end) = next_import_item(tokens, at, depth)?;
+    'turns: while let Some(next) = accept(tokens, at, Kind::Comma) {
+        let (item, end) = import_item(tokens, next, depth)?;
+        separators.push(at)?;
         items.push(item)?;
         at = end;
     }
-    Ok((items, at))
-}
-
-/// A comma and an item.
-fn next_import_item(tokens: &[Token], from: u32, depth: u32) -> Result<(NextImportItem, u32), Stop>
-    requires few { length tokens.now < 2 ^ 32 }
-    requires from { from ≤ length tokens.now }
-    requires depth { depth ≤ 512 }
-    ensures tree { Gives (λ x. (next_import_item_tree x.0, x.1)) result (at_depth tokens.now depth (tok Comma ∙ import_item) from) }
-    ensures end { IfOk result (λ x. (from < x.1) × (x.1 ≤ length tokens.now)) }
-{
-    let at = expect(tokens, from, Kind::Comma)?;
-    let (item, end) = import_item(tokens, at, depth)?;
-    Ok((NextImportItem { comma: from, item }, end))
+    Ok((Row { items, separators }, at))
 }

@@ -1,41 +1,23 @@
--- The levels of operators: from one level to the next, and an operation of a level.
-use Rattle.std.proofs.Common.{◌≡◌, ℕ, zero, suc, ◌+◌, ◌-◌, ◌<◌, ◌≤◌, eqb, Bool, true, false, cond, List, [], ◌∷◌, length, Option, Ok, Err, refl, sym as flip, subst, ◌∙◌ as ◌∘◌, arith}
+-- The levels of operators: over the levels at which nothing goes on, and an operation of a level.
+use Rattle.std.proofs.Common.{◌≡◌, ℕ, zero, suc, ◌+◌, ◌-◌, ◌<◌, ◌≤◌, eqb, Bool, true, false, cond, List, [], ◌∷◌, ◌++◌, length, Ok, Err, refl, ap, sym as flip, subst, ◌∙◌ as ◌∘◌, arith, inl, inr}
 use Rattle.std.specs.Prelude.{◌||◌, ◌&&◌}
-use Rattle.std.proofs.lemmas.Bool.{eqb-true}
-use Rattle.sve_token.specs.declared.kind.Kind.{Kind}
-use Rattle.sve_token.specs.declared.kind.Kind.TheVariants.{Keyword}
-use Rattle.sve_token.specs.declared.keywords.Keyword.TheVariants.{KwInside}
+use Rattle.std.proofs.lemmas.Bool.{cases_lt, eqb-true}
 use Rattle.sve_token.specs.declared.token.Token.{Token}
 use Rattle.sve_grammar.specs.declared.stop.Stop.{Stop}
 use Rattle.sve_grammar.specs.declared.stop.Stop.TheVariants.{At, NoMemory}
-use Rattle.sve_grammar.specs.Token.{kind_at, has_kind}
-use Rattle.sve_grammar.specs.Rule.{Rule, ◌∙◌, ◌∣◌, many, starts, empties}
+use Rattle.sve_grammar.specs.Token.{kind_at}
+use Rattle.sve_grammar.specs.Rule.{Rule, ◌∙◌, ◌∣◌, starts, empties}
 use Rattle.sve_grammar.specs.Expressions.{operators, operation, operations, membership}
-use Rattle.sve_grammar.specs.Reading.{Tree, pair, left, ended, Answer, ◌>>=◌, with_left, with_right, both, reads, symbol, at_depth}
+use Rattle.sve_grammar.specs.Reading.{Tree, pair, left, ended, with_left, with_right, reads, symbol, at_depth}
 use Rattle.sve_grammar.specs.Gives.{Fails}
-use Rattle.sve_grammar.proofs.Begins.{or_none}
-use Rattle.sve_grammar.proofs.StartsOfExpressions.{membership_starts}
-use Rattle.sve_grammar.proofs.Loops.{extend, Keeps}
-use Rattle.sve_grammar.proofs.Idle.{last_way, fails_both}
-use Rattle.sve_grammar.proofs.Levels.{operations_is, operators_full}
+use Rattle.sve_grammar.proofs.Idle.{first_way, last_way}
+use Rattle.sve_grammar.proofs.Levels.{chain_of, level_passes, level_goes, chain_fails, operators_full}
 use Rattle.sve_tree.specs.declared.word.BinaryOperator.{BinaryOperator}
+use Rattle.sve_tree.specs.declared.expression.Expr.{Expr}
 use Rattle.sve_tree.specs.Words.{binary_operator_tree}
-use Rattle.sve_parse_expr.proofs.Ways.{first_way}
-
--- ---- a chain behind its first operand
-
-pub chain_begins : (ts : List Token) (d : ℕ) (a : Rule) (front x : Tree) (j : ℕ) → front ≡ pair x ended → j ≤ length ts
-    → Keeps ts d a front j (both (Ok (x, j)) (λ i. reads ts (symbol ts (512 - d)) (many a) i))
-unfolding extend
-chain_begins ts d a front x j e w = record { kept = rw e (same (reads ts (symbol ts (512 - d)) (many a) j)); within = w }
-  where
-    same : (y : Answer) → extend (pair x ended) y ≡ (y >>= λ q. Ok (pair x q.0, q.1))
-    same (Ok y) = refl
-    same (Err e) = refl
-
-pub none_of_length : {X : Type 0} (xs : List X) → length xs ≡ 0 → xs ≡ []
-none_of_length [] h = refl
-none_of_length (x ∷ xs) h = absurd (omega arith)
+use Rattle.sve_tree.specs.Expressions.{tree_at, height}
+use Rattle.sve_tree.proofs.ExpressionTrees.{tree_up}
+use Rattle.sve_parse_expr.specs.Levels.{goes_on}
 
 pub not_five : (n : ℕ) → (n ≡ 5 → ⊥) → eqb n 5 ≡ false
 not_five n h = go (eqb n 5) refl
@@ -44,63 +26,66 @@ not_five n h = go (eqb n 5) refl
     go true e = absurd (h (eqb-true n 5 e))
     go false e = refl
 
--- ---- from one level to the next
+pub some_push : {X : Type 0} (xs : List X) (x : X) → length (xs ++ x ∷ []) ≡ 0 → ⊥
+some_push [] x e = omega arith
+some_push (y ∷ ys) x e = omega arith
 
-abbrev chain_of : List Token → ℕ → ℕ → Tree → ℕ → Answer
-chain_of ts d level x at = both (Ok (x, at)) (λ i. at_depth ts d (many (operation level (operations (level - 1)))) i)
+-- where an operation goes on at one place and not at another behind it, these are two places
+pub moved_on : (ts : List Token) (from at level : ℕ) → goes_on ts from level ≡ true → goes_on ts at level ≡ false → from ≤ at → from < at
+moved_on ts from at level b f le = elim (cases_lt from at) [
+  | inl lt ↦ lt
+  | inr ge ↦ absurd (let same : at ≡ from = omega arith in let e : goes_on ts from level ≡ false = subst (λ (i : ℕ). goes_on ts i level ≡ false) same f in let a : true ≡ false = flip b ∘ e in cc)
+]
 
-next_level : (ts : List Token) (d n from at : ℕ) (x : Tree) → at_depth ts d (operations n) from ≡ Ok (x, at) → at_depth ts d (operations (n + 1)) from ≡ chain_of ts d (n + 1) x at
-next_level ts d n from at x h =
-    let e : n + 1 - 1 ≡ n = omega arith in
-    let pos : 0 < n + 1 = omega arith in
-    let g : at_depth ts d (operations (n + 1 - 1)) from ≡ Ok (x, at) = rw e h in
-    rw (operations_is (n + 1) pos, g) refl
+-- a chain that began has an operation
+pub chain_goes_on : {X : Type 0} (ts : List Token) (from at level : ℕ) (xs : List X) → goes_on ts from level ≡ true → goes_on ts at level ≡ false → (length xs ≡ 0 → at ≡ from) → 0 < length xs
+chain_goes_on ts from at level [] b f h = absurd (let e : goes_on ts from level ≡ false = subst (λ (i : ℕ). goes_on ts i level ≡ false) (h refl) f in let a : true ≡ false = flip b ∘ e in cc)
+chain_goes_on ts from at level (x ∷ xs) b f h = omega arith
 
-pub level_goes : (ts : List Token) (d n from at : ℕ) (front : ℕ → Tree) (y : Tree) (j : ℕ) → at_depth ts d (operations n) from ≡ Ok (front n, at) → chain_of ts d (n + 1) (front (n + 1 - 1)) at ≡ Ok (y, j)
-    → at_depth ts d (operations (n + 1)) from ≡ Ok (y, j)
-level_goes ts d n from at front y j h g =
-    let e : n + 1 - 1 ≡ n = omega arith in
-    let P : ℕ → Type 0 = λ m. chain_of ts d (n + 1) (front m) at ≡ Ok (y, j) in
-    next_level ts d n from at (front n) h ∘ subst P e g
+-- ---- over the levels at which nothing goes on
 
-fails_next : (ts : List Token) (d from : ℕ) (e : Stop) (n k : ℕ) → Fails e (at_depth ts d (operations n) from) → Fails e (at_depth ts d (operations (k + n)) from)
-unfolding operations
-fails_next ts d from e n zero h =
-    let s : n ≡ 0 + n = omega arith in
-    let P : ℕ → Type 0 = λ m. Fails e (at_depth ts d (operations m) from) in
-    subst P s h
-fails_next ts d from e n (suc k) h =
-    let s : suc (k + n) ≡ suc k + n = omega arith in
-    let P : ℕ → Type 0 = λ m. Fails e (at_depth ts d (operations m) from) in
-    subst P s (fails_both e (at_depth ts d (operations (k + n)) from) (λ i. at_depth ts d (many (operation (suc (k + n)) (operations (k + n)))) i) (fails_next ts d from e n k h))
+module _ (ts : List Token) (d from at : ℕ) (e : Expr) where
+  abbrev Stands : ℕ → Type 0
+  Stands n = at_depth ts d (operations n) from ≡ Ok (tree_at n e, at)
 
--- what stops at a level stops at every looser one
-pub level_fails : (ts : List Token) (d from : ℕ) (e : Stop) (n m : ℕ) → n ≤ m → Fails e (at_depth ts d (operations n) from) → Fails e (at_depth ts d (operations m) from)
-level_fails ts d from e n m le h =
-    let s : m - n + n ≡ m = omega arith in
-    let P : ℕ → Type 0 = λ k. Fails e (at_depth ts d (operations k) from) in
-    subst P s (fails_next ts d from e n (m - n) h)
+  passes_one : (n : ℕ) → n < 11 → height e ≤ n → Stands n → goes_on ts at (n + 1) ≡ false → Stands (n + 1)
+  passes_one n lt h s g =
+      let same : n + 1 - 1 ≡ n = omega arith in
+      let idle : starts (operation (n + 1) (operations n)) (kind_at ts at) ≡ false = subst (λ (m : ℕ). starts (operation (n + 1) (operations m)) (kind_at ts at) ≡ false) same g in
+      let up : tree_at (n + 1) e ≡ pair (tree_at n e) ended = tree_up (n + 1) e (omega arith) (omega arith) (omega arith) ∘ ap (λ (m : ℕ). pair (tree_at m e) ended) same in
+      rw up (level_passes ts d n from at (tree_at n e) s idle)
 
-pub chain_fails : (ts : List Token) (d n from at m : ℕ) (front : ℕ → Tree) (e : Stop) → n + 1 ≤ m → at_depth ts d (operations n) from ≡ Ok (front n, at) → Fails e (chain_of ts d (n + 1) (front (n + 1 - 1)) at)
-    → Fails e (at_depth ts d (operations m) from)
-chain_fails ts d n from at m front e le h f =
-    let same : n + 1 - 1 ≡ n = omega arith in
-    let P : Answer → Type 0 = λ r. Fails e r in
-    let Q : ℕ → Type 0 = λ k. Fails e (chain_of ts d (n + 1) (front k) at) in
-    level_fails ts d from e (n + 1) m le (subst P (flip (next_level ts d n from at (front n) h)) (subst Q same f))
+  passes_many : (n k : ℕ) → k + n ≤ 11 → height e ≤ n → Stands n → ((m : ℕ) → n < m → m ≤ k + n → goes_on ts at m ≡ false) → Stands (k + n)
+  passes_many n zero le h s g = let same : n ≡ 0 + n = omega arith in subst Stands same s
+  passes_many n (suc k) le h s g =
+      let same : k + n + 1 ≡ suc k + n = omega arith in
+      subst Stands same (passes_one (k + n) (omega arith) (omega arith) (passes_many n k (omega arith) h s (λ m lo hi. g m lo (omega arith))) (g (k + n + 1) (omega arith) (omega arith)))
 
--- ---- what an operation begins with
+-- what stands at a level stands at a looser one, where nothing goes on between
+pub levels_pass : (ts : List Token) (d n m from at : ℕ) (e : Expr) → n ≤ m → m ≤ 11 → height e ≤ n → at_depth ts d (operations n) from ≡ Ok (tree_at n e, at)
+    → ((k : ℕ) → n < k → k ≤ m → goes_on ts at k ≡ false) → at_depth ts d (operations m) from ≡ Ok (tree_at m e, at)
+levels_pass ts d n m from at e le top h s g =
+    let same : m - n + n ≡ m = omega arith in
+    subst (Stands ts d from at e) same (passes_many ts d from at e n (m - n) (omega arith) h s (λ k lo hi. g k lo (omega arith)))
 
-pub operation_begins : (level : ℕ) (operand : Rule) (k : Option Kind) → starts (operation level operand) k ≡ (starts (operators level) k || (eqb level 5 && has_kind k (Keyword KwInside)))
-unfolding operation
-operation_begins level operand k = go (eqb level 5)
-  where
-    plain : starts (operators level ∙ operand) k ≡ starts (operators level) k
-    plain = rw (operators_full level) (or_none (starts (operators level) k))
+below_next : (ts : List Token) (d n next from at : ℕ) (e : Expr) → n < next → next ≤ 11 → height e ≤ n → at_depth ts d (operations n) from ≡ Ok (tree_at n e, at)
+    → ((k : ℕ) → n < k → k < next → goes_on ts at k ≡ false) → at_depth ts d (operations (next - 1)) from ≡ Ok (tree_at (next - 1) e, at)
+below_next ts d n next from at e lt top h s g = levels_pass ts d n (next - 1) from at e (omega arith) (omega arith) h s (λ k lo hi. g k lo (omega arith))
 
-    go : (b : Bool) → starts (cond b (operators level ∙ operand ∣ membership) (operators level ∙ operand)) k ≡ (starts (operators level) k || (b && has_kind k (Keyword KwInside)))
-    go true = rw (plain, membership_starts k) refl
-    go false = plain ∘ flip (or_none (starts (operators level) k))
+-- the next level at which something goes on
+pub level_reached : (ts : List Token) (d n next from at : ℕ) (e : Expr) (y : Tree) (j : ℕ) → n < next → next ≤ 11 → height e ≤ n → at_depth ts d (operations n) from ≡ Ok (tree_at n e, at)
+    → ((k : ℕ) → n < k → k < next → goes_on ts at k ≡ false) → chain_of ts d next (tree_at (next - 1) e) at ≡ Ok (y, j) → at_depth ts d (operations next) from ≡ Ok (y, j)
+level_reached ts d n next from at e y j lt top h s g r =
+    let same : next - 1 + 1 ≡ next = omega arith in
+    let goes : chain_of ts d (next - 1 + 1) (tree_at (next - 1 + 1 - 1) e) at ≡ Ok (y, j) = subst (λ (m : ℕ). chain_of ts d m (tree_at (m - 1) e) at ≡ Ok (y, j)) (flip same) r in
+    subst (λ (m : ℕ). at_depth ts d (operations m) from ≡ Ok (y, j)) same (level_goes ts d (next - 1) from at (λ k. tree_at k e) y j (below_next ts d n next from at e lt top h s g) goes)
+
+pub level_stops : (ts : List Token) (d n next m from at : ℕ) (e : Expr) (stop : Stop) → n < next → next ≤ m → m ≤ 11 → height e ≤ n → at_depth ts d (operations n) from ≡ Ok (tree_at n e, at)
+    → ((k : ℕ) → n < k → k < next → goes_on ts at k ≡ false) → Fails stop (chain_of ts d next (tree_at (next - 1) e) at) → Fails stop (at_depth ts d (operations m) from)
+level_stops ts d n next m from at e stop lt le top h s g f =
+    let same : next - 1 + 1 ≡ next = omega arith in
+    let fails : Fails stop (chain_of ts d (next - 1 + 1) (tree_at (next - 1 + 1 - 1) e) at) = subst (λ (k : ℕ). Fails stop (chain_of ts d k (tree_at (k - 1) e) at)) (flip same) f in
+    chain_fails ts d (next - 1) from at m (λ k. tree_at k e) stop (omega arith) (below_next ts d n next from at e lt (omega arith) h s g) fails
 
 -- ---- an operation
 

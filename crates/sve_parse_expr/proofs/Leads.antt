@@ -1,24 +1,16 @@
 -- To which of its alternatives an operand leads, by its next token.
-use Rattle.std.proofs.Common.{◌≡◌, ℕ, true, false, List, Option, Some, None, refl, ap, sym as flip, ◌∙◌ as ◌∘◌}
-use Rattle.std.specs.Option.{is_some}
+use Rattle.std.proofs.Common.{◌≡◌, ℕ, true, false, List, Some, refl, ap, sym as flip, ◌∙◌ as ◌∘◌}
 use Rattle.sve_token.specs.declared.kind.Kind.{Kind}
-use Rattle.sve_token.specs.declared.kind.Kind.TheVariants.{SystemName, Decimal, Based, Unbased, Text, LeftParen, LeftBrace, ApostropheLeftBrace}
+use Rattle.sve_token.specs.declared.kind.Kind.TheVariants.{Identifier, SystemName, Decimal, Based, Unbased, Text, LeftParen, LeftBrace, ApostropheLeftBrace}
 use Rattle.sve_token.specs.declared.token.Token.{Token}
-use Rattle.sve_grammar.specs.Token.{kind_at, has_kind}
+use Rattle.sve_grammar.specs.Token.{kind_at, has_kind, same_kind}
 use Rattle.sve_grammar.specs.Rule.{Rule, tok, ◌∙◌, ◌∣◌, opt, starts}
-use Rattle.sve_grammar.specs.Expressions.{primary, decimal, parenthesized, cast, pattern, concatenation, signing, integer_type, typed_primary, system_call, scoped_name, postfixes}
-use Rattle.sve_grammar.specs.Reading.{Tree, reads, symbol}
-use Rattle.sve_grammar.specs.Gives.{Finds}
-use Rattle.sve_grammar.proofs.Idle.{last_way}
+use Rattle.sve_grammar.specs.Expressions.{primary, decimal, parenthesized, cast, pattern, concatenation, signing, integer_type, integer_atom_type, integer_vector_type, unary_operator, typed_primary, system_call, scoped_name, postfixes}
+use Rattle.sve_grammar.specs.Reading.{reads, symbol}
+use Rattle.sve_grammar.proofs.Idle.{first_way, last_way}
 use Rattle.sve_grammar.proofs.StartsOfExpressions.{decimal_starts, decimal_full, parenthesized_starts, parenthesized_full, pattern_starts, pattern_full, concatenation_starts, concatenation_full, signing_full, integer_type_starts, typed_primary_starts, typed_primary_full, system_call_starts, system_call_full}
 use Rattle.sve_parse_expr.specs.Alternatives.{last_alternative, LeadsTo}
 use Rattle.sve_parse_expr.specs.declared.begins.Operand.TheVariants as forms
-use Rattle.sve_parse_expr.proofs.Ways.{first_way}
-
--- whether a token of a set was found is whether its rule begins
-pub found_begins : {X : Type 0} (ts : List Token) (r : Rule) (view : X → ℕ → Tree) (i : ℕ) (found : Option X) → Finds ts r view i found → starts r (kind_at ts i) ≡ is_some found
-found_begins ts r view i None h = h
-found_begins ts r view i (Some x) h = h.0
 
 -- the alternatives behind each
 abbrev behind_system : Rule
@@ -128,3 +120,13 @@ module _ (ts : List Token) (i : ℕ) where
 
   pub leads_name : Not Decimal → Not Based → Not Unbased → Not Text → Not LeftParen → Not ApostropheLeftBrace → Not LeftBrace → Lacks signing → Lacks integer_type → Not SystemName → LeadsTo ts i forms.Name
   leads_name h0 h1 h2 h3 h4 h5 h6 h7 h8 h9 n = past_system h0 h1 h2 h3 h4 h5 h6 h7 h8 h9 n
+
+-- ---- names
+
+pub no_prefix : starts unary_operator (Some Identifier) ≡ false
+unfolding unary_operator same_kind
+no_prefix = refl
+
+pub leads_identifier : (ts : List Token) (i : ℕ) → kind_at ts i ≡ Some Identifier → LeadsTo ts i forms.Name
+unfolding same_kind signing integer_type integer_atom_type integer_vector_type
+leads_identifier ts i e = leads_name ts i (rw e refl) (rw e refl) (rw e refl) (rw e refl) (rw e refl) (rw e refl) (rw e refl) (rw e refl) (rw e refl) (rw e refl)

@@ -1,3 +1,4 @@
 pub mod Ways
 pub mod Leads
 pub mod Chains
+pub mod ClosingKinds

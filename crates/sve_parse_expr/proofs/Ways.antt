@@ -1,5 +1,5 @@
 -- Which alternative of a rule is read, by what begins here.
-use Rattle.std.proofs.Common.{◌≡◌, ℕ, ◌+◌, true, false, List, Ok, Err, refl, sym as flip, ap, ◌∙◌ as ◌∘◌}
+use Rattle.std.proofs.Common.{◌≡◌, ℕ, ◌+◌, true, false, List, Ok, refl, ap, ◌∙◌ as ◌∘◌}
 use Rattle.sve_token.specs.declared.kind.Kind.TheVariants.{Keyword, Identifier, LeftParen, LeftBracket, RightBracket, LeftBrace, Colon, Dot, Apostrophe}
 use Rattle.sve_token.specs.declared.keywords.Keyword.TheVariants.{KwDefault}
 use Rattle.sve_token.specs.declared.token.Token.{Token}
@@ -7,24 +7,12 @@ use Rattle.sve_grammar.specs.declared.symbol.Symbol.TheVariants.{Expression, Con
 use Rattle.sve_grammar.specs.declared.stop.Stop.{Stop}
 use Rattle.sve_grammar.specs.declared.stop.Stop.TheVariants.{At, NoMemory}
 use Rattle.sve_grammar.specs.Token.{kind_at, has_kind}
-use Rattle.sve_grammar.specs.Rule.{Rule, tok, word, sym, ◌∙◌, ◌∣◌, opt, starts, empties}
+use Rattle.sve_grammar.specs.Rule.{tok, word, sym, ◌∙◌, ◌∣◌, opt, starts}
 use Rattle.sve_grammar.specs.Expressions.{select, bracket_select, postfix, argument_list, cast, pattern, pattern_item, pattern_item_end, concatenation_end, braced_expressions, more_expressions, value_range, expression, implication_operator, unary, unary_operator, primary}
-use Rattle.sve_grammar.specs.Reading.{Tree, pair, left, Answer, with_left, with_right, halt, reads, symbol}
+use Rattle.sve_grammar.specs.Reading.{Tree, pair, left, with_left, with_right, reads, symbol}
 use Rattle.sve_grammar.specs.Gives.{Fails}
-use Rattle.sve_grammar.proofs.Idle.{last_way}
+use Rattle.sve_grammar.proofs.Idle.{first_way, last_way}
 use Rattle.sve_grammar.proofs.StartsOfExpressions.{select_full, argument_list_starts, argument_list_full, cast_starts, cast_full, braced_expressions_starts, braced_expressions_full, unary_operator_full}
-
--- of two rules the first is read where it begins
-pub first_way : (ts : List Token) (n : ℕ) (a b : Rule) (i : ℕ) → starts a (kind_at ts i) ≡ true → reads ts (symbol ts n) (a ∣ b) i ≡ with_left (reads ts (symbol ts n) a i)
-first_way ts n a b i s = rw s refl
-
--- a rule that is never empty and does not begin here stops here
-pub stops_here : (ts : List Token) (n : ℕ) (r : Rule) (i : ℕ) → starts r (kind_at ts i) ≡ false → empties r ≡ false → reads ts (symbol ts n) r i ≡ halt i false
-stops_here ts n r i s f = inner (reads ts (symbol ts n) r i) (flip (last_way ts n r r i s f) ∘ rw (s, f) refl)
-  where
-    inner : (x : Answer) → with_right x ≡ halt i false → x ≡ halt i false
-    inner (Ok x) h = absurd cc
-    inner (Err e) h = h
 
 pub select_member : (ts : List Token) (n i : ℕ) → has_kind (kind_at ts i) Dot ≡ true → reads ts (symbol ts n) select i ≡ with_left (reads ts (symbol ts n) (tok Dot ∙ tok Identifier) i)
 unfolding select

@@ -1,14 +1,17 @@
 //! What stands at a place, by its next token.
 
-ghost use Rattle.std.specs.Prelude.{◌≡◌, ◌-◌, ◌≤◌};
+ghost use Rattle.std.specs.Prelude.{◌≡◌};
 ghost use Rattle.sve_grammar.specs.Token.{kind_at};
 ghost use Rattle.sve_grammar.specs.Rule.{starts};
-ghost use Rattle.sve_grammar.specs.Expressions.{select, postfix, operation, operations};
+ghost use Rattle.sve_grammar.specs.Expressions.{select, postfix, unary_operator};
+ghost use Rattle.sve_grammar.specs.Gives.{Finds};
+ghost use Rattle.sve_tree.specs.Words.{unary_operator_tree};
 ghost use Rattle.sve_parse_expr.specs.Alternatives.{LeadsTo};
 
-use sve_grammar::{is_kind, is_one_of};
-use sve_parse_word::{binary_operator, integer_keyword, sign};
-use sve_token::{Keyword, Kind, Token};
+use sve_grammar::{is_kind, is_one_of, kind_here};
+use sve_parse_word::{integer_keyword, sign, unary_operator};
+use sve_token::{Kind, Token};
+use sve_tree::UnaryOperator;
 
 /// The forms of an operand without operators before it: the alternatives of primary (IEEE 1800-2017, A.8.4), in their order.
 #[derive(Clone, Copy)]
@@ -37,8 +40,31 @@ pub(crate) enum Operand {
     Name,
 }
 
+/// The unary operator that stands here in front of an operand.
+#[tactic(auto, using(crate::proofs::Leads::no_prefix))]
+pub(crate) fn prefix_operator(tokens: &[Token], at: u32) -> Option<UnaryOperator>
+    ensures { Finds tokens.now unary_operator unary_operator_tree at result }
+{
+    // most operands are names
+    match kind_here(tokens, at) {
+        Some(Kind::Identifier) => None,
+        _ => unary_operator(tokens, at),
+    }
+}
+
 /// The form of the operand that begins here; `Name` where none does.
 pub(crate) fn operand_here(tokens: &[Token], at: u32) -> Operand
+    ensures { LeadsTo tokens.now at result }
+{
+    // most operands are names
+    match kind_here(tokens, at) {
+        Some(Kind::Identifier) => Operand::Name,
+        _ => any_operand_here(tokens, at),
+    }
+}
+
+/// The form of the operand that begins here, by the tests of the alternatives in their order.
+fn any_operand_here(tokens: &[Token], at: u32) -> Operand
     ensures { LeadsTo tokens.now at result }
 {
     let decimal = is_kind(tokens, at, Kind::Decimal);
@@ -82,22 +108,6 @@ pub(crate) fn operand_here(tokens: &[Token], at: u32) -> Operand
         return Operand::System;
     }
     Operand::Name
-}
-
-/// Whether an operation of this level goes on here: an operator of the level, or `inside` on that of the comparisons by order.
-pub(crate) fn begins_operation(tokens: &[Token], at: u32, level: u32) -> bool
-    requires { (1 ≤ level) × (level ≤ 11) }
-    ensures { result ≡ starts (operation level (operations (level - 1))) (kind_at tokens.now at) }
-{
-    let operator = binary_operator(tokens, at, level).is_some();
-    if operator {
-        return true;
-    }
-    let relational = level == 5;
-    if relational {
-        return is_kind(tokens, at, Kind::Keyword(Keyword::KwInside));
-    }
-    false
 }
 
 /// Whether a member or a range in brackets begins here.

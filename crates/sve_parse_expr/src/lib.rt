@@ -3,15 +3,14 @@
 #![tactic(auto)]
 
 mod begins;
+mod boxes;
+mod levels;
 mod lists;
 mod operands;
 mod operators;
 mod parts;
 
-pub use lists::{argument, argument_list, pattern};
-pub use operands::{cast, more_expressions, parenthesized};
+pub use lists::{argument, argument_list, more_expressions, pattern};
+pub use operands::{cast, parenthesized};
 pub use operators::{boxed_expr, expr};
 pub use parts::{bracket_select, dimension, dimensions, range, select, selects};
-
-#[cfg(test)]
-mod tests;

@@ -2,22 +2,21 @@
 
 ghost use Rattle.std.specs.Prelude.{◌≡◌, ◌<◌, ◌≤◌, ◌^◌, length, IfOk};
 ghost use Rattle.sve_grammar.specs.Rule.{◌∙◌, opt};
-ghost use Rattle.sve_grammar.specs.Expressions.{primary, decimal, typed_primary, system_call, concatenation, signing, parenthesized, cast, more_expressions};
+ghost use Rattle.sve_grammar.specs.Expressions.{primary, decimal, typed_primary, system_call, concatenation, signing, parenthesized, cast};
 ghost use Rattle.sve_grammar.specs.Reading.{at_depth, with_right};
 ghost use Rattle.sve_grammar.specs.Gives.{Gives};
-ghost use Rattle.sve_tree.specs.Shape.{repeated_tree};
-ghost use Rattle.sve_tree.specs.Expressions.{tree_at, height, parenthesized_tree, cast_tree, next_expression_tree};
+ghost use Rattle.sve_tree.specs.Expressions.{tree_at, height, parenthesized_tree, cast_tree};
 ghost use Rattle.sve_parse_expr.specs.Alternatives.{alternative};
 
 use crate::begins::{Operand, operand_here};
-use crate::lists::{argument_list, pattern};
-use crate::operators::{boxed_expr, expr};
+use crate::lists::{argument_list, braced_expressions, more_expressions, pattern};
+use crate::operators::boxed_expr;
 use crate::parts::{bracket_selects, dimensions, postfixes, selects};
 use std::alloc::Global;
 use sve_grammar::{Stop, accept, expect, is_kind};
 use sve_parse_word::{integer_keyword, optional_sign, scoped_name, sign};
 use sve_token::{Kind, Token};
-use sve_tree::{Cast, Expr, NextExpression, Parenthesized, Word};
+use sve_tree::{Cast, Expr, Mark, Parenthesized};
 
 /// An operand without operators before it: primary (A.8.4).
 #[cycle(expression)]
@@ -136,7 +135,7 @@ fn sign_cast(alloc: Global, tokens: &[Token], from: u32, depth: u32) -> Result<(
         });
     };
     let (cast, end) = cast(alloc, tokens, from + 1, depth)?;
-    let sign = Word { kind, token: from };
+    let sign = Mark { kind, token: from };
     Ok((Expr::SignCast { sign, cast }, end))
 }
 
@@ -162,7 +161,7 @@ fn typed_primary(
             deep: false,
         });
     };
-    let keyword = Word { kind, token: from };
+    let keyword = Mark { kind, token: from };
     let (sign, at) = optional_sign(tokens, from + 1);
     let (dimensions, at) = dimensions(alloc, tokens, at, depth)?;
     if is_kind(tokens, at, Kind::Apostrophe) {
@@ -223,7 +222,7 @@ fn system_call(alloc: Global, tokens: &[Token], from: u32, depth: u32) -> Result
 
 /// A concatenation or a replication, and selects of its bits: concatenation, multiple_concatenation (A.8.1).
 #[cycle(expression)]
-#[tactic(auto, using(sve_tree::proofs::ExpressionTrees::replication_expr, sve_tree::proofs::ExpressionTrees::concatenation_expr, crate::proofs::Ways::concatenation_end_braced, crate::proofs::Ways::concatenation_end_more), unfolding(sve_grammar::specs::Expressions::concatenation, sve_grammar::specs::Expressions::braced_expressions))]
+#[tactic(auto, using(sve_tree::proofs::ExpressionTrees::replication_expr, sve_tree::proofs::ExpressionTrees::concatenation_expr, crate::proofs::Ways::concatenation_end_braced, crate::proofs::Ways::concatenation_end_more), unfolding(sve_grammar::specs::Expressions::concatenation))]
 fn concatenation(
     alloc: Global,
     tokens: &[Token],
@@ -239,34 +238,31 @@ fn concatenation(
 {
     let next = expect(tokens, from, Kind::LeftBrace)?;
     let (first, at) = boxed_expr(alloc, tokens, next, depth)?;
-    if let Some(next) = accept(tokens, at, Kind::LeftBrace) {
-        let (repeated, next) = boxed_expr(alloc, tokens, next, depth)?;
-        let (others, inner_closing) = more_expressions(alloc, tokens, next, depth)?;
-        let closing = expect(tokens, inner_closing, Kind::RightBrace)?;
+    if is_kind(tokens, at, Kind::LeftBrace) {
+        let (repeated, closing) = braced_expressions(alloc, tokens, at, depth)?;
         let next = expect(tokens, closing, Kind::RightBrace)?;
         let (selects, end) = bracket_selects(alloc, tokens, next, depth)?;
         return Ok((
             Expr::Replication {
                 opening: from,
                 count: first,
-                inner_opening: at,
-                first: repeated,
-                others,
-                inner_closing,
+                inner_opening: repeated.opening,
+                operands: repeated.values,
+                inner_closing: repeated.closing,
                 closing,
                 selects,
             },
             end,
         ));
     }
-    let (others, closing) = more_expressions(alloc, tokens, at, depth)?;
+    let first = Box::into_inner(first);
+    let (operands, closing) = more_expressions(alloc, tokens, at, depth, first)?;
     let next = expect(tokens, closing, Kind::RightBrace)?;
     let (selects, end) = bracket_selects(alloc, tokens, next, depth)?;
     Ok((
         Expr::Concatenation {
             opening: from,
-            first,
-            others,
+            operands,
             closing,
             selects,
         },
@@ -321,29 +317,4 @@ pub fn cast(alloc: Global, tokens: &[Token], from: u32, depth: u32) -> Result<(C
         },
         end,
     ))
-}
-
-/// A comma and an expression, again and again or not at all.
-#[cycle(expression)]
-#[tactic(auto, unfolding(sve_grammar::specs::Expressions::more_expressions))]
-pub fn more_expressions(
-    alloc: Global,
-    tokens: &[Token],
-    from: u32,
-    depth: u32,
-) -> Result<(Vec<NextExpression>, u32), Stop>
-    requires few { length tokens.now < 2 ^ 32 }
-    requires from { from ≤ length tokens.now }
-    requires depth { depth ≤ 512 }
-    ensures tree { Gives (λ x. (repeated_tree next_expression_tree x.0.items, x.1)) result (at_depth tokens.now depth more_expressions from) }
-    ensures end { IfOk result (λ x. (from ≤ x.1) × (x.1 ≤ length tokens.now)) }
-{
-    let mut items = Vec::new(alloc);
-    let mut at = from;
-    'turns: while let Some(next) = accept(tokens, at, Kind::Comma) {
-        let (value, end) = expr(alloc, tokens, next, depth)?;
-        items.push(NextExpression { comma: at, value })?;
-        at = end;
-    }
-    Ok((items, at))
 }

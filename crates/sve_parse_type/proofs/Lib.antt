@@ -1,2 +1,2 @@
-pub mod IntegerTypes
-pub mod DeclaredType
+mod DeclaredType
+mod DataTypes

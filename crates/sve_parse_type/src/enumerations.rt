@@ -1,21 +1,21 @@
 //! Enumerations (IEEE 1800-2017, 6.19 and A.2.2.1).
 
 ghost use Rattle.std.specs.Prelude.{◌≡◌, ◌<◌, ◌≤◌, ◌^◌, length, IfOk};
-ghost use Rattle.sve_grammar.specs.Rule.{tok, ◌∙◌, opt};
-ghost use Rattle.sve_grammar.specs.Reading.{at_depth};
+ghost use Rattle.sve_grammar.specs.Rule.{opt};
+ghost use Rattle.sve_grammar.specs.Reading.{leaf, at_depth};
 ghost use Rattle.sve_grammar.specs.Gives.{Gives};
 ghost use Rattle.sve_grammar.specs.Types.{enum_base, enum_name, more_enum_names, enumeration};
-ghost use Rattle.sve_tree.specs.Shape.{optional_tree, repeated_tree};
-ghost use Rattle.sve_tree.specs.Types.{enum_base_tree, enum_name_tree, next_enum_name_tree, enumeration_tree};
+ghost use Rattle.sve_tree.specs.Shape.{optional_tree, row_first, row_rest};
+ghost use Rattle.sve_tree.specs.Types.{enum_base_tree, enum_name_tree, enumeration_tree};
 
 use crate::integers::{atom_type, vector_type};
 use crate::names::{named_type, optional_initializer};
 use std::alloc::Global;
-use sve_grammar::{Stop, expect, is_kind};
+use sve_grammar::{Stop, accept, expect, is_kind};
 use sve_parse_expr::dimensions;
 use sve_parse_word::{atom_keyword, vector_keyword};
 use sve_token::{Keyword, Kind, Token};
-use sve_tree::{EnumBase, EnumName, Enumeration, NextEnumName};
+use sve_tree::{EnumBase, EnumName, Enumeration, Row};
 
 /// An enumeration, and the place behind it.
 #[tactic(auto, unfolding(sve_grammar::specs::Types::enumeration))]
@@ -35,7 +35,7 @@ pub fn enumeration(
     let (base, opening) = optional_base(alloc, tokens, at, depth)?;
     let at = expect(tokens, opening, Kind::LeftBrace)?;
     let (first, at) = enum_name(alloc, tokens, at, depth)?;
-    let (others, closing) = more_enum_names(alloc, tokens, at, depth)?;
+    let (names, closing) = more_enum_names(alloc, tokens, at, depth, first)?;
     let at = expect(tokens, closing, Kind::RightBrace)?;
     let (dimensions, end) = dimensions(alloc, tokens, at, depth)?;
     Ok((
@@ -43,8 +43,7 @@ pub fn enumeration(
             keyword: from,
             base,
             opening,
-            first,
-            others,
+            names,
             closing,
             dimensions,
         },
@@ -53,7 +52,7 @@ pub fn enumeration(
 }
 
 /// The base type where one stands here, and the place behind it.
-#[tactic(auto, using(crate::proofs::IntegerTypes::atom_type_begins, crate::proofs::IntegerTypes::vector_type_begins, sve_grammar::proofs::StartsOfTypes::atom_type_full, sve_grammar::proofs::StartsOfTypes::vector_type_full, sve_grammar::proofs::StartsOfTypes::named_type_starts, sve_grammar::proofs::StartsOfTypes::named_type_full), unfolding(sve_grammar::specs::Types::enum_base))]
+#[tactic(auto, using(crate::proofs::DataTypes::base_atom, crate::proofs::DataTypes::base_vector, crate::proofs::DataTypes::base_named, crate::proofs::DataTypes::base_none))]
 fn optional_base(
     alloc: Global,
     tokens: &[Token],
@@ -99,41 +98,30 @@ fn enum_name(
     Ok((EnumName { name: from, value }, end))
 }
 
+/// The further names of an enumeration behind the first, and the place behind them.
 fn more_enum_names(
     alloc: Global,
     tokens: &[Token],
     from: u32,
     depth: u32,
-) -> Result<(Vec<NextEnumName>, u32), Stop>
+    first: EnumName,
+) -> Result<(Row<EnumName>, u32), Stop>
     requires few { length tokens.now < 2 ^ 32 }
     requires from { from ≤ length tokens.now }
     requires depth { depth ≤ 512 }
-    ensures tree { Gives (λ x. (repeated_tree next_enum_name_tree x.0.items, x.1)) result (at_depth tokens.now depth more_enum_names from) }
+    ensures tree { Gives (λ x. (row_rest enum_name_tree leaf x.0, x.1)) result (at_depth tokens.now depth more_enum_names from) }
+    ensures first { IfOk result (λ x. row_first enum_name_tree x.0 ≡ enum_name_tree first) }
     ensures end { IfOk result (λ x. (from ≤ x.1) × (x.1 ≤ length tokens.now)) }
 {
     let mut items = Vec::new(alloc);
+    items.push(first)?;
+    let mut separators = Vec::new(alloc);
     let mut at = from;
-    'turns: while is_kind(tokens, at, Kind::Comma) {
-        let (item, end) = next_enum_name(alloc, tokens, at, depth)?;
+    'turns: while let Some(next) = accept(tokens, at, Kind::Comma) {
+        let (item, end) = enum_name(alloc, tokens, next, depth)?;
+        separators.push(at)?;
         items.push(item)?;
         at = end;
     }
-    Ok((items, at))
-}
-
-fn next_enum_name(
-    alloc: Global,
-    tokens: &[Token],
-    from: u32,
-    depth: u32,
-) -> Result<(NextEnumName, u32), Stop>
-    requires few { length tokens.now < 2 ^ 32 }
-    requires from { from ≤ length tokens.now }
-    requires depth { depth ≤ 512 }
-    ensures tree { Gives (λ x. (next_enum_name_tree x.0, x.1)) result (at_depth tokens.now depth (tok Kind.Comma ∙ enum_name) from) }
-    ensures end { IfOk result (λ x. (from < x.1) × (x.1 ≤ length tokens.now)) }
-{
-    let at = expect(tokens, from, Kind::Comma)?;
-    let (name, end) = enum_name(alloc, tokens, at, depth)?;
-    Ok((NextEnumName { comma: from, name }, end))
+    Ok((Row { items, separators }, at))
 }

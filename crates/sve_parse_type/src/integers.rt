@@ -14,7 +14,7 @@ use sve_grammar::Stop;
 use sve_parse_expr::dimensions;
 use sve_parse_word::optional_sign;
 use sve_token::Token;
-use sve_tree::{AtomKeyword, AtomType, VectorKeyword, VectorType, Word};
+use sve_tree::{AtomKeyword, AtomType, Mark, VectorKeyword, VectorType};
 
 /// The type with a width of its own whose keyword stands at `from`, and the place behind it.
 #[tactic(auto, unfolding(sve_grammar::specs::Types::atom_type))]
@@ -25,7 +25,7 @@ pub fn atom_type(tokens: &[Token], from: u32, kind: AtomKeyword) -> (AtomType, u
     ensures end { (from < result.1) × (result.1 ≤ length tokens.now) }
 {
     let (sign, end) = optional_sign(tokens, from + 1);
-    let keyword = Word { kind, token: from };
+    let keyword = Mark { kind, token: from };
     (AtomType { keyword, sign }, end)
 }
 
@@ -46,7 +46,7 @@ pub fn vector_type(
 {
     let (sign, at) = optional_sign(tokens, from + 1);
     let (dimensions, end) = dimensions(alloc, tokens, at, depth)?;
-    let keyword = Word { kind, token: from };
+    let keyword = Mark { kind, token: from };
     Ok((
         VectorType {
             keyword,

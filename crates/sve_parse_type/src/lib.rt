@@ -10,6 +10,3 @@ mod typed_names;
 pub use names::{declaration_end, declared_name, initializer, named_type, optional_initializer};
 pub use structures::{data_type, type_reference};
 pub use typed_names::type_name;
-
-#[cfg(test)]
-mod tests;

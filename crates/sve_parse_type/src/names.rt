@@ -1,20 +1,20 @@
 //! Names: of a type, and of what is declared, with dimensions and values.
 
 ghost use Rattle.std.specs.Prelude.{◌≡◌, ◌<◌, ◌≤◌, ◌^◌, length, IfOk};
-ghost use Rattle.sve_grammar.specs.Rule.{tok, ◌∙◌, opt};
-ghost use Rattle.sve_grammar.specs.Reading.{at_depth};
+ghost use Rattle.sve_grammar.specs.Rule.{◌∙◌, opt};
+ghost use Rattle.sve_grammar.specs.Reading.{Tree, leaf, at_depth};
 ghost use Rattle.sve_grammar.specs.Gives.{Gives};
 ghost use Rattle.sve_grammar.specs.Types.{named_type, declared_name, initializer, more_declarators, declaration_end};
-ghost use Rattle.sve_tree.specs.Shape.{optional_tree, repeated_tree};
+ghost use Rattle.sve_tree.specs.Shape.{optional_tree, row_rest, IsRow};
 ghost use Rattle.sve_tree.specs.Types.{named_type_tree, declarator_tree, initializer_tree};
-ghost use Rattle.sve_tree.specs.Declarations.{next_declarator_tree, declaration_end_tree};
+ghost use Rattle.sve_tree.specs.Declarations.{initialized_declarator_tree, first_declarator, declaration_end_tree};
 
 use std::alloc::Global;
-use sve_grammar::{Stop, expect, is_kind};
-use sve_parse_expr::{dimensions, expr};
+use sve_grammar::{Stop, accept, expect, is_kind};
+use sve_parse_expr::{boxed_expr, dimensions};
 use sve_parse_word::scoped_name;
 use sve_token::{Kind, Token};
-use sve_tree::{DeclarationEnd, Declarator, Initializer, NamedType, NextDeclarator};
+use sve_tree::{Declarator, InitializedDeclarator, Initializer, NamedType, Row};
 
 /// A type by its name, perhaps behind the name of a package, with packed dimensions (IEEE 1800-2017, A.2.2.1), and the place
 /// behind it.
@@ -76,8 +76,7 @@ pub fn initializer(
     ensures end { IfOk result (λ x. (from < x.1) × (x.1 ≤ length tokens.now)) }
 {
     let at = expect(tokens, from, Kind::Assign)?;
-    let (value, end) = expr(alloc, tokens, at, depth)?;
-    let value = Box::new(alloc, value)?;
+    let (value, end) = boxed_expr(alloc, tokens, at, depth)?;
     Ok((
         Initializer {
             equals: from,
@@ -108,69 +107,73 @@ pub fn optional_initializer(
     Ok((None, from))
 }
 
-/// What stands behind the first declared name: its value, where there is one, and the further names with theirs (A.2.3); and
-/// the place behind it all. No token need be there.
+/// The declared names of one declaration with their values, where they have any (IEEE 1800-2017, A.2.3): what stands behind the
+/// first name, which was read before; and the place behind it all. No token need be there.
 #[tactic(auto, unfolding(sve_grammar::specs::Types::declaration_end))]
 pub fn declaration_end(
     alloc: Global,
     tokens: &[Token],
     from: u32,
     depth: u32,
-) -> Result<(DeclarationEnd, u32), Stop>
+    first: Declarator,
+) -> Result<(Row<InitializedDeclarator>, u32), Stop>
     requires few { length tokens.now < 2 ^ 32 }
     requires from { from ≤ length tokens.now }
     requires depth { depth ≤ 512 }
     ensures tree { Gives (λ x. (declaration_end_tree x.0, x.1)) result (at_depth tokens.now depth declaration_end from) }
+    ensures first { IfOk result (λ x. (f : Declarator → Tree) → first_declarator f x.0 ≡ f first) }
     ensures end { IfOk result (λ x. (from ≤ x.1) × (x.1 ≤ length tokens.now)) }
 {
     let (value, at) = optional_initializer(alloc, tokens, from, depth)?;
-    let (others, end) = more_declarators(alloc, tokens, at, depth)?;
-    Ok((DeclarationEnd { value, others }, end))
+    let first = InitializedDeclarator {
+        declarator: first,
+        value,
+    };
+    more_declarators(alloc, tokens, at, depth, first)
 }
 
+/// The further names of a declaration behind the first, and the place behind them.
 fn more_declarators(
     alloc: Global,
     tokens: &[Token],
     from: u32,
     depth: u32,
-) -> Result<(Vec<NextDeclarator>, u32), Stop>
+    first: InitializedDeclarator,
+) -> Result<(Row<InitializedDeclarator>, u32), Stop>
     requires few { length tokens.now < 2 ^ 32 }
     requires from { from ≤ length tokens.now }
     requires depth { depth ≤ 512 }
-    ensures tree { Gives (λ x. (repeated_tree next_declarator_tree x.0.items, x.1)) result (at_depth tokens.now depth more_declarators from) }
+    ensures tree { Gives (λ x. (row_rest initialized_declarator_tree leaf x.0, x.1)) result (at_depth tokens.now depth more_declarators from) }
+    ensures first { IfOk result (λ x. IsRow first x.0.items.items x.0.separators.items) }
     ensures end { IfOk result (λ x. (from ≤ x.1) × (x.1 ≤ length tokens.now)) }
 {
     let mut items = Vec::new(alloc);
+    items.push(first)?;
+    let mut separators = Vec::new(alloc);
     let mut at = from;
-    'turns: while is_kind(tokens, at, Kind::Comma) {
-        let (item, end) = next_declarator(alloc, tokens, at, depth)?;
+    'turns: while let Some(next) = accept(tokens, at, Kind::Comma) {
+        let (item, end) = initialized_declarator(alloc, tokens, next, depth)?;
+        separators.push(at)?;
         items.push(item)?;
         at = end;
     }
-    Ok((items, at))
+    Ok((Row { items, separators }, at))
 }
 
-fn next_declarator(
+/// A declared name and its value, where it has one, and the place behind them.
+fn initialized_declarator(
     alloc: Global,
     tokens: &[Token],
     from: u32,
     depth: u32,
-) -> Result<(NextDeclarator, u32), Stop>
+) -> Result<(InitializedDeclarator, u32), Stop>
     requires few { length tokens.now < 2 ^ 32 }
     requires from { from ≤ length tokens.now }
     requires depth { depth ≤ 512 }
-    ensures tree { Gives (λ x. (next_declarator_tree x.0, x.1)) result (at_depth tokens.now depth (tok Kind.Comma ∙ declared_name ∙ opt initializer) from) }
+    ensures tree { Gives (λ x. (initialized_declarator_tree x.0, x.1)) result (at_depth tokens.now depth (declared_name ∙ opt initializer) from) }
     ensures end { IfOk result (λ x. (from < x.1) × (x.1 ≤ length tokens.now)) }
 {
-    let at = expect(tokens, from, Kind::Comma)?;
-    let (declarator, at) = declared_name(alloc, tokens, at, depth)?;
+    let (declarator, at) = declared_name(alloc, tokens, from, depth)?;
     let (value, end) = optional_initializer(alloc, tokens, at, depth)?;
-    Ok((
-        NextDeclarator {
-            comma: from,
-            declarator,
-            value,
-        },
-        end,
-    ))
+    Ok((InitializedDeclarator { declarator, value }, end))
 }

@@ -23,6 +23,3 @@ pub use types::{
     atom_keyword, direction, integer_keyword, lifetime, net, parameter_keyword, sign,
     vector_keyword,
 };
-
-#[cfg(test)]
-mod tests;

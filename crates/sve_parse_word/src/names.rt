@@ -1,20 +1,19 @@
 //! Names behind a package, behind a colon, and in rows.
 
 ghost use Rattle.std.specs.Prelude.{◌≡◌, ◌<◌, ◌≤◌, ◌^◌, length, IfOk};
-ghost use Rattle.sve_token.specs.declared.kind.Kind.TheVariants.{Comma, Identifier};
-ghost use Rattle.sve_grammar.specs.Rule.{tok, ◌∙◌, opt};
+ghost use Rattle.sve_grammar.specs.Rule.{opt};
 ghost use Rattle.sve_grammar.specs.Expressions.{scoped_name};
 ghost use Rattle.sve_grammar.specs.Types.{more_identifiers};
 ghost use Rattle.sve_grammar.specs.Declarations.{label};
-ghost use Rattle.sve_grammar.specs.Reading.{at_depth};
+ghost use Rattle.sve_grammar.specs.Reading.{leaf, at_depth};
 ghost use Rattle.sve_grammar.specs.Gives.{Gives};
-ghost use Rattle.sve_tree.specs.Shape.{optional_tree, repeated_tree};
-ghost use Rattle.sve_tree.specs.Words.{scoped_name_tree, label_tree, next_name_tree};
+ghost use Rattle.sve_tree.specs.Shape.{optional_tree, row_first, row_rest};
+ghost use Rattle.sve_tree.specs.Words.{scoped_name_tree, label_tree};
 
 use std::alloc::Global;
 use sve_grammar::{Stop, accept, expect, is_kind};
 use sve_token::{Kind, Token};
-use sve_tree::{Label, NextName, ScopeMember, ScopedName};
+use sve_tree::{Label, PackageScope, Row, ScopedName};
 
 /// A name, perhaps behind the name of a package (IEEE 1800-2017, 26.3), and the place behind it.
 #[tactic(auto, unfolding(sve_grammar::specs::Expressions::scoped_name))]
@@ -28,19 +27,16 @@ pub fn scoped_name(tokens: &[Token], from: u32, depth: u32) -> Result<(ScopedNam
     let at = expect(tokens, from, Kind::Identifier)?;
     if let Some(name) = accept(tokens, at, Kind::ColonColon) {
         let end = expect(tokens, name, Kind::Identifier)?;
-        let member = Some(ScopeMember { colons: at, name });
-        return Ok((
-            ScopedName {
-                first: from,
-                member,
-            },
-            end,
-        ));
+        let scope = Some(PackageScope {
+            name: from,
+            colons: at,
+        });
+        return Ok((ScopedName { scope, name }, end));
     }
     Ok((
         ScopedName {
-            first: from,
-            member: None,
+            scope: None,
+            name: from,
         },
         at,
     ))
@@ -76,38 +72,30 @@ pub fn optional_label(tokens: &[Token], from: u32, depth: u32) -> Result<(Option
     Ok((None, from))
 }
 
-/// A comma and a name.
-fn next_name(tokens: &[Token], from: u32, depth: u32) -> Result<(NextName, u32), Stop>
-    requires few { length tokens.now < 2 ^ 32 }
-    requires from { from ≤ length tokens.now }
-    requires depth { depth ≤ 512 }
-    ensures tree { Gives (λ x. (next_name_tree x.0, x.1)) result (at_depth tokens.now depth (tok Comma ∙ tok Identifier) from) }
-    ensures end { IfOk result (λ x. (from < x.1) × (x.1 ≤ length tokens.now)) }
-{
-    let name = expect(tokens, from, Kind::Comma)?;
-    let end = expect(tokens, name, Kind::Identifier)?;
-    Ok((NextName { comma: from, name }, end))
-}
-
-/// Further names of a list, each behind a comma, and the place behind them.
+/// The names of a list whose first was read: that name and those behind it, each behind a comma, and the place behind them.
 pub fn more_names(
     alloc: Global,
     tokens: &[Token],
     from: u32,
     depth: u32,
-) -> Result<(Vec<NextName>, u32), Stop>
+    first: u32,
+) -> Result<(Row<u32>, u32), Stop>
     requires few { length tokens.now < 2 ^ 32 }
     requires from { from ≤ length tokens.now }
     requires depth { depth ≤ 512 }
-    ensures tree { Gives (λ x. (repeated_tree next_name_tree x.0.items, x.1)) result (at_depth tokens.now depth more_identifiers from) }
+    ensures tree { Gives (λ x. (row_rest leaf leaf x.0, x.1)) result (at_depth tokens.now depth more_identifiers from) }
+    ensures first { IfOk result (λ x. row_first leaf x.0 ≡ leaf first) }
     ensures end { IfOk result (λ x. (from ≤ x.1) × (x.1 ≤ length tokens.now)) }
 {
     let mut items = Vec::new(alloc);
+    items.push(first)?;
+    let mut separators = Vec::new(alloc);
     let mut at = from;
-    'turns: while is_kind(tokens, at, Kind::Comma) {
-        let (item, end) = next_name(tokens, at, depth)?;
-        items.push(item)?;
+    'turns: while let Some(name) = accept(tokens, at, Kind::Comma) {
+        let end = expect(tokens, name, Kind::Identifier)?;
+        separators.push(at)?;
+        items.push(name)?;
         at = end;
     }
-    Ok((items, at))
+    Ok((Row { items, separators }, at))
 }

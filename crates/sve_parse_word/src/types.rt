@@ -8,7 +8,7 @@ ghost use Rattle.sve_grammar.specs.Gives.{Finds};
 ghost use Rattle.sve_tree.specs.Words.{sign_tree, lifetime_tree, net_tree, atom_keyword_tree, vector_keyword_tree, integer_keyword_tree, parameter_keyword_tree, dir_tree};
 
 use sve_bytes::Dir;
-use sve_grammar::is_kind;
+use sve_grammar::{is_kind, keyword_here};
 use sve_token::{Keyword, Kind, Token};
 use sve_tree::{AtomKeyword, IntegerKeyword, Lifetime, Net, ParameterKeyword, Sign, VectorKeyword};
 
@@ -41,72 +41,61 @@ pub fn lifetime(tokens: &[Token], at: u32) -> Option<Lifetime>
 }
 
 /// The net type that is written here (6.6).
-#[tactic(auto, unfolding(sve_grammar::specs::Types::net_type, sve_grammar::specs::Reading::token))]
+#[tactic(auto, unfolding(sve_grammar::specs::Types::net_type, sve_grammar::specs::Reading::token, sve_grammar::specs::Token::same_kind))]
 pub fn net(tokens: &[Token], at: u32) -> Option<Net>
     ensures { Finds tokens.now net_type net_tree at result }
 {
-    if is_kind(tokens, at, Kind::Keyword(Keyword::KwWire)) {
-        Some(Net::Wire)
-    } else if is_kind(tokens, at, Kind::Keyword(Keyword::KwTri)) {
-        Some(Net::Tri)
-    } else if is_kind(tokens, at, Kind::Keyword(Keyword::KwUwire)) {
-        Some(Net::Uwire)
-    } else if is_kind(tokens, at, Kind::Keyword(Keyword::KwWand)) {
-        Some(Net::Wand)
-    } else if is_kind(tokens, at, Kind::Keyword(Keyword::KwWor)) {
-        Some(Net::Wor)
-    } else if is_kind(tokens, at, Kind::Keyword(Keyword::KwTriand)) {
-        Some(Net::Triand)
-    } else if is_kind(tokens, at, Kind::Keyword(Keyword::KwTrior)) {
-        Some(Net::Trior)
-    } else if is_kind(tokens, at, Kind::Keyword(Keyword::KwTri0)) {
-        Some(Net::Tri0)
-    } else if is_kind(tokens, at, Kind::Keyword(Keyword::KwTri1)) {
-        Some(Net::Tri1)
-    } else if is_kind(tokens, at, Kind::Keyword(Keyword::KwSupply0)) {
-        Some(Net::Supply0)
-    } else if is_kind(tokens, at, Kind::Keyword(Keyword::KwSupply1)) {
-        Some(Net::Supply1)
-    } else {
-        None
+    match keyword_here(tokens, at) {
+        Some(word) => match word {
+            Keyword::KwWire => Some(Net::Wire),
+            Keyword::KwTri => Some(Net::Tri),
+            Keyword::KwUwire => Some(Net::Uwire),
+            Keyword::KwWand => Some(Net::Wand),
+            Keyword::KwWor => Some(Net::Wor),
+            Keyword::KwTriand => Some(Net::Triand),
+            Keyword::KwTrior => Some(Net::Trior),
+            Keyword::KwTri0 => Some(Net::Tri0),
+            Keyword::KwTri1 => Some(Net::Tri1),
+            Keyword::KwSupply0 => Some(Net::Supply0),
+            Keyword::KwSupply1 => Some(Net::Supply1),
+            _ => None,
+        },
+        None => None,
     }
 }
 
 /// The keyword here of an integer type with a width of its own (6.11).
-#[tactic(auto, unfolding(sve_grammar::specs::Expressions::integer_atom_type, sve_grammar::specs::Reading::token))]
+#[tactic(auto, unfolding(sve_grammar::specs::Expressions::integer_atom_type, sve_grammar::specs::Reading::token, sve_grammar::specs::Token::same_kind))]
 pub fn atom_keyword(tokens: &[Token], at: u32) -> Option<AtomKeyword>
     ensures { Finds tokens.now integer_atom_type atom_keyword_tree at result }
 {
-    if is_kind(tokens, at, Kind::Keyword(Keyword::KwByte)) {
-        Some(AtomKeyword::Byte)
-    } else if is_kind(tokens, at, Kind::Keyword(Keyword::KwShortint)) {
-        Some(AtomKeyword::Shortint)
-    } else if is_kind(tokens, at, Kind::Keyword(Keyword::KwInt)) {
-        Some(AtomKeyword::Int)
-    } else if is_kind(tokens, at, Kind::Keyword(Keyword::KwLongint)) {
-        Some(AtomKeyword::Longint)
-    } else if is_kind(tokens, at, Kind::Keyword(Keyword::KwInteger)) {
-        Some(AtomKeyword::Integer)
-    } else if is_kind(tokens, at, Kind::Keyword(Keyword::KwTime)) {
-        Some(AtomKeyword::Time)
-    } else {
-        None
+    match keyword_here(tokens, at) {
+        Some(word) => match word {
+            Keyword::KwByte => Some(AtomKeyword::Byte),
+            Keyword::KwShortint => Some(AtomKeyword::Shortint),
+            Keyword::KwInt => Some(AtomKeyword::Int),
+            Keyword::KwLongint => Some(AtomKeyword::Longint),
+            Keyword::KwInteger => Some(AtomKeyword::Integer),
+            Keyword::KwTime => Some(AtomKeyword::Time),
+            _ => None,
+        },
+        None => None,
     }
 }
 
 /// The keyword here of an integer type of as many bits as its packed dimensions say (6.11).
-#[tactic(auto, unfolding(sve_grammar::specs::Expressions::integer_vector_type, sve_grammar::specs::Reading::token))]
+#[tactic(auto, unfolding(sve_grammar::specs::Expressions::integer_vector_type, sve_grammar::specs::Reading::token, sve_grammar::specs::Token::same_kind))]
 pub fn vector_keyword(tokens: &[Token], at: u32) -> Option<VectorKeyword>
     ensures { Finds tokens.now integer_vector_type vector_keyword_tree at result }
 {
-    if is_kind(tokens, at, Kind::Keyword(Keyword::KwBit)) {
-        Some(VectorKeyword::Bit)
-    } else if is_kind(tokens, at, Kind::Keyword(Keyword::KwLogic)) {
-        Some(VectorKeyword::Logic)
-    } else if is_kind(tokens, at, Kind::Keyword(Keyword::KwReg)) {
-        Some(VectorKeyword::Reg)
-    } else {
-        None
+    match keyword_here(tokens, at) {
+        Some(word) => match word {
+            Keyword::KwBit => Some(VectorKeyword::Bit),
+            Keyword::KwLogic => Some(VectorKeyword::Logic),
+            Keyword::KwReg => Some(VectorKeyword::Reg),
+            _ => None,
+        },
+        None => None,
     }
 }
 

@@ -7,11 +7,11 @@ use Rattle.sve_grammar.specs.Items.{chunk}
 use Rattle.sve_grammar.specs.Reading.{moves, Answer, at_depth}
 use Rattle.sve_grammar.specs.Meaning.{Arrives}
 use Rattle.sve_grammar.proofs.Runs.{runs}
+use Rattle.sve_grammar.proofs.Held.{Held, reads_held, symbol_held}
 use Rattle.sve_grammar.proofs.Unique.{ends_once, stops_once, never_both}
 use Rattle.sve_run.specs.declared.verdict.Verdict.{Verdict}
 use Rattle.sve_run.specs.declared.verdict.Verdict.TheVariants.{Accept, Stop}
 use Rattle.sve_run.specs.Verdict.{start, Says, SaysOnly, judged}
-use Rattle.sve_run.proofs.Bound.{reads_held, symbol_held, Held}
 
 one_place : (ts : List Token) (i j : ℕ) (ms ns : List Move) → Comes ts start (state [] i ms) → Comes ts start (state [] j ns) → i ≡ j
 one_place ts i j ms ns p q = let same : state [] i ms ≡ state [] j ns = ends_once ts start (state [] i ms) (state [] j ns) p refl q refl in ap (λ (s : State). s.index) same

@@ -9,19 +9,13 @@ mod declarations;
 mod entry;
 mod expressions;
 mod items;
-mod laws;
 mod machine;
 mod part;
-#[cfg(test)]
-mod rows;
 mod statements;
 mod step;
 mod table;
-#[cfg(test)]
-mod tests;
 mod types;
 mod verdict;
 
-pub use laws::machine_is_linear;
 pub use machine::run;
 pub use verdict::Verdict;

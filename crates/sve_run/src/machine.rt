@@ -1,9 +1,11 @@
 //! The machine, from the start to its end.
 
-ghost use Rattle.std.specs.Prelude.{◌≡◌, ◌<◌, ◌^◌, length, IfOk};
+ghost use Rattle.std.specs.Prelude.{◌≡◌, ◌<◌, ◌≤◌, ◌+◌, ◌*◌, ◌^◌, length, IfOk};
 ghost use Rattle.sve_grammar.specs.Items.{chunk};
+ghost use Rattle.sve_grammar.specs.Machine.{State, Comes};
 ghost use Rattle.sve_grammar.specs.Reading.{at_depth};
-ghost use Rattle.sve_run.specs.Verdict.{SaysOnly, judged};
+ghost use Rattle.sve_run.specs.Runs.{steps_of};
+ghost use Rattle.sve_run.specs.Verdict.{start, SaysOnly, judged};
 
 use crate::entry::{Entry, Step};
 use crate::items::ItemSign;
@@ -16,10 +18,13 @@ use sve_token::Token;
 
 /// Runs the grammar's machine over the tokens of a chunk (IEEE 1800-2017, Annex A), from the rule of a chunk at depth 0. It
 /// accepts exactly where the machine comes to the empty stack behind the last token, and else says where the machine stops.
-/// It fails for want of memory alone.
+/// It fails for want of memory alone. The machine ends: whatever the tokens are, no run of it is longer than so many steps for
+/// each of them and for the end.
+#[tactic(auto, using(crate::proofs::Bound::bounded))]
 pub fn run(alloc: Global, tokens: &[Token]) -> Result<Verdict, NoMemory>
     requires few { length tokens.now < 2 ^ 32 }
     ensures machine { IfOk result (λ verdict. SaysOnly tokens.now verdict) }
+    ensures linear { (s : State) (c : Comes tokens.now start s) → steps_of c ≤ 209 * 513 * (length tokens.now + 1) }
     ensures reading { IfOk result (λ verdict. verdict ≡ judged (length tokens.now) (at_depth tokens.now 0 chunk 0)) }
 {
     let mut stack = Vec::new(alloc);

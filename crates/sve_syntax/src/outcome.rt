@@ -2,7 +2,7 @@ use std::alloc::{AllocError, Global};
 use std::fmt::Write;
 use sve_bytes::NoMemory;
 use sve_grammar::Stop;
-use sve_run::Verdict;
+use sve_show::stop_text;
 
 /// What came of reading a part.
 #[derive(Drop)]
@@ -59,45 +59,4 @@ pub fn outcome_text(
         }
         Outcome::Stopped { index, deep } => stop_text(alloc, *index, *deep),
     }
-}
-
-/// A verdict of the machine as it is printed.
-pub fn verdict_text(alloc: Global, verdict: &Verdict) -> Result<String, NoMemory> {
-    match verdict {
-        Verdict::Accept => String::from_str(alloc, "accept"),
-        Verdict::Stop { index, deep } => stop_text(alloc, *index, *deep),
-    }
-}
-
-/// A stop as it is printed.
-fn stop_text(alloc: Global, index: u32, deep: bool) -> Result<String, NoMemory> {
-    let mut text = format!(in alloc; "stop at {index}")?;
-    if deep {
-        text.push_str(" deep")?;
-    }
-    Ok(text)
-}
-
-/// Whether the machine, over the chunk that holds the part behind so many tokens, says what the parser says of the part,
-/// which has so many tokens.
-pub fn agrees(outcome: &Outcome, tokens: usize, front: u32, verdict: &Verdict) -> bool {
-    match (outcome, verdict) {
-        (Outcome::Read { end, .. }, Verdict::Accept) => *end as usize == tokens,
-        (Outcome::Read { end, .. }, Verdict::Stop { index, deep }) => {
-            (*end as usize) < tokens && !*deep && is_behind(*index, front, *end)
-        }
-        (Outcome::Stopped { .. }, Verdict::Accept) => false,
-        (
-            Outcome::Stopped { index, deep },
-            Verdict::Stop {
-                index: at,
-                deep: is_deep,
-            },
-        ) => { *deep == *is_deep && is_behind(*at, front, *index) }
-    }
-}
-
-/// Whether a place in the chunk is this place in the part.
-fn is_behind(at: u32, front: u32, index: u32) -> bool {
-    u64::from(at) == u64::from(front) + u64::from(index)
 }

@@ -1,4 +1,4 @@
-/// What a line asks to be read: a symbol of the grammar that has a parser, or a chunk, which has the grammar's machine.
+/// What a line asks to be read: a symbol of the grammar that has a parser.
 #[derive(Clone, Copy)]
 pub enum Part {
     /// An expression (IEEE 1800-2017, A.8.3).
@@ -19,19 +19,6 @@ pub enum Part {
     Import,
     /// A modport with its members (A.2.9).
     Modport,
-    /// A chunk of a file.
-    Chunk,
-}
-
-/// What stands in front of a part, and behind it, in the smallest chunk that holds it.
-#[derive(Drop)]
-pub struct Frame {
-    /// The text in front.
-    pub front: &'static str,
-    /// How many tokens it has.
-    pub tokens: u32,
-    /// The text behind.
-    pub back: &'static str,
 }
 
 /// The part that a word at the head of a line names.
@@ -46,7 +33,6 @@ pub fn part_named(word: &str) -> Option<Part> {
         ("typedef", Part::Typedef),
         ("import", Part::Import),
         ("modport", Part::Modport),
-        ("run", Part::Chunk),
     ];
     for (name, part) in table {
         if name == word {
@@ -54,22 +40,4 @@ pub fn part_named(word: &str) -> Option<Part> {
         }
     }
     None
-}
-
-/// The smallest chunk around a part. No symbol in the part is deeper there than it is by itself, but for a modport, which
-/// holds no symbol that deepens.
-pub fn frame_of(part: Part) -> Frame {
-    let (front, tokens, back) = match part {
-        Part::Expression => ("localparam M =", 3, ";"),
-        Part::DeclaredType => ("localparam", 1, "= 0 ;"),
-        Part::DataType | Part::TypeReference => ("typedef", 1, "x ;"),
-        Part::Header => ("module", 1, "endmodule"),
-        Part::Modport => ("module m ; modport", 4, "; endmodule"),
-        Part::Parameters | Part::Typedef | Part::Import | Part::Chunk => ("", 0, ""),
-    };
-    Frame {
-        front,
-        tokens,
-        back,
-    }
 }

@@ -1,33 +1,30 @@
 //! The parsers, each called for the part that a line names.
 ghost use Rattle.std.specs.Prelude.{◌<◌, ◌≤◌, ◌^◌, length};
 
-use crate::declarations::write_declaration;
-use crate::expressions::write_expression;
-use crate::headers::write_header;
 use crate::outcome::{Outcome, outcome_of_stop};
 use crate::part::Part;
-use crate::types::{write_data_type, write_type};
-use crate::writer::Writer;
 use std::alloc::Global;
 use sve_bytes::NoMemory;
 use sve_grammar::Stop;
 use sve_parse_decl::{header, import, modport, param, typedef};
 use sve_parse_expr::expr;
 use sve_parse_type::{data_type, type_name, type_reference};
-use sve_run::{Verdict, run};
+use sve_show::{
+    Writer, write_data_type, write_declaration, write_expression, write_header, write_type,
+    write_typed_name,
+};
 use sve_token::Token;
-use sve_tree::{DataType, Decl, Expr, Header, TypeRef};
+use sve_tree::{DataType, Decl, Expr, Header, TypeRef, TypedName};
 
 /// The tree of a part.
 #[derive(Drop)]
 enum PartTree {
     Expression(Expr),
+    TypedName(TypedName),
     Type(TypeRef),
     DataType(DataType),
     Header(Header),
     Declaration(Decl),
-    /// A chunk, of which only a verdict is there.
-    Chunk,
 }
 
 /// Reads a part from a place on, and writes its tree.
@@ -62,7 +59,7 @@ fn parse_part(
         }
         Part::DeclaredType => {
             let (tree, end) = type_name(alloc, tokens, from, 0)?;
-            Ok((PartTree::Type(tree), end))
+            Ok((PartTree::TypedName(tree), end))
         }
         Part::TypeReference => {
             let (tree, end) = type_reference(alloc, tokens, from, 0)?;
@@ -92,10 +89,6 @@ fn parse_part(
             let (tree, end) = modport(alloc, tokens, from, 0)?;
             Ok((PartTree::Declaration(tree), end))
         }
-        Part::Chunk => match run(alloc, tokens)? {
-            Verdict::Accept => Ok((PartTree::Chunk, tokens.len() as u32)),
-            Verdict::Stop { index, deep } => Err(Stop::At { index, deep }),
-        },
     }
 }
 
@@ -110,17 +103,11 @@ fn outcome_of_tree(
     let mut w = Writer::new(alloc, tokens, from);
     match tree {
         PartTree::Expression(tree) => write_expression(&mut w, tree),
+        PartTree::TypedName(tree) => write_typed_name(&mut w, tree),
         PartTree::Type(tree) => write_type(&mut w, tree),
         PartTree::DataType(tree) => write_data_type(&mut w, tree),
         PartTree::Header(tree) => write_header(&mut w, tree),
         PartTree::Declaration(tree) => write_declaration(&mut w, tree),
-        PartTree::Chunk => {
-            return Ok(Outcome::Read {
-                text: String::from_str(alloc, "accept")?,
-                end,
-                in_order: true,
-            });
-        }
     }
     let written = w.finish()?;
     Ok(Outcome::Read {

@@ -1,27 +1,32 @@
 -- The tree of each variant: left sides.
-use Rattle.std.specs.Global.{Box, Vec}
-use Rattle.std.proofs.Common.{ℕ, ◌≡◌, refl, ap, ◌∙◌}
-use Rattle.sve_grammar.specs.Reading.{Tree, leaf, left, right, turn}
-use Rattle.sve_tree.specs.Shape.{◌▸◌, repeated_tree}
-use denote.Hole.Carrier.{roll}
+use Rattle.std.specs.Global.{Vec}
+use Rattle.std.proofs.Common.{ℕ, List, ◌∷◌, map, ◌≡◌, refl, ap, ◌∙◌}
+use Rattle.sve_grammar.specs.Reading.{Tree, leaf, left, right}
+use Rattle.sve_tree.specs.Shape.{◌▸◌, repeated_tree, first_tree, further_tree, first_of, further_of}
+use Rattle.sve_tree.proofs.Shapes.{first_map, further_map}
 use Rattle.sve_tree.specs.declared.expression.Select.{Select}
 use Rattle.sve_tree.specs.Expressions.{select_tree}
 use Rattle.sve_tree.specs.declared.statement.LeftSide.{LeftSide}
-use Rattle.sve_tree.specs.Statements.{left_side_tree, left_concatenation_tree, next_left_side_tree, next_left_side_row}
-use Rattle.sve_tree.specs.declared.statement.LeftConcatenation.{LeftConcatenation, roll-LeftConcatenation, Row_of-NextLeftSide, end_of-NextLeftSide, items-the_row-NextLeftSide, more_of-NextLeftSide}
-use Rattle.sve_tree.specs.declared.statement.NextLeftSide.{NextLeftSide}
-use Rattle.sve_tree.specs.declared.statement.LeftSide.TheBlock.{hidden-the_row-NextLeftSide-0, items_hidden-the_row-NextLeftSide-0}
+use Rattle.sve_tree.specs.Statements.{left_side_tree, left_concatenation_tree, left_side_trees}
+use Rattle.sve_tree.specs.declared.statement.LeftConcatenation.{LeftConcatenation, Row_of-LeftSide, end_of-LeftSide, items-the_row-LeftSide, more_of-LeftSide}
+use Rattle.sve_tree.specs.declared.statement.LeftSide.TheBlock.{hidden-the_row-LeftSide-0, items_hidden-the_row-LeftSide-0}
 use Rattle.sve_tree.specs.declared.statement.LeftSide.TheVariants as is_left_side
 
 -- ---- rows
 
-next_left_side_row_is : {n : _} (row : Row_of-NextLeftSide n) → next_left_side_row row ≡ repeated_tree next_left_side_tree (items-the_row-NextLeftSide n row)
-unfolding left_side_tree repeated_tree
-next_left_side_row_is end_of-NextLeftSide = refl
-next_left_side_row_is (more_of-NextLeftSide comma side rest) = ap (λ (t : Tree). turn (leaf comma ▸ left_side_tree side) t) (next_left_side_row_is rest)
+left_side_trees_are : {n : _} (row : Row_of-LeftSide n) → left_side_trees row ≡ map left_side_tree (items-the_row-LeftSide n row)
+unfolding left_side_tree
+left_side_trees_are end_of-LeftSide = refl
+left_side_trees_are (more_of-LeftSide item rest) = ap (λ (ts : List Tree). left_side_tree item ∷ ts) (left_side_trees_are rest)
 
-pub next_left_side_row_of : (xs : Vec NextLeftSide) → next_left_side_row (hidden-the_row-NextLeftSide-0 xs) ≡ repeated_tree next_left_side_tree xs.items
-next_left_side_row_of xs = next_left_side_row_is (hidden-the_row-NextLeftSide-0 xs) ∙ ap (repeated_tree next_left_side_tree) (items_hidden-the_row-NextLeftSide-0 xs)
+left_side_trees_of : (xs : Vec LeftSide) → left_side_trees (hidden-the_row-LeftSide-0 xs) ≡ map left_side_tree xs.items
+left_side_trees_of xs = left_side_trees_are (hidden-the_row-LeftSide-0 xs) ∙ ap (map left_side_tree) (items_hidden-the_row-LeftSide-0 xs)
+
+pub left_sides_first : (xs : Vec LeftSide) → first_of (left_side_trees (hidden-the_row-LeftSide-0 xs)) ≡ first_tree left_side_tree xs.items
+left_sides_first xs = ap first_of (left_side_trees_of xs) ∙ first_map left_side_tree xs.items
+
+pub left_sides_further : (xs : Vec LeftSide) (ss : List ℕ) → further_of (left_side_trees (hidden-the_row-LeftSide-0 xs)) ss ≡ further_tree left_side_tree leaf xs.items ss
+left_sides_further xs ss = ap (λ (ts : List Tree). further_of ts ss) (left_side_trees_of xs) ∙ further_map left_side_tree leaf xs.items ss
 
 -- ---- left side
 
@@ -31,10 +36,4 @@ name_left_side name selects = refl
 
 pub concatenation_left_side : (concatenation : LeftConcatenation) → left_side_tree (is_left_side.Concatenation concatenation) ≡ right (left_concatenation_tree concatenation)
 unfolding left_side_tree
-concatenation_left_side concatenation = refl
-
--- ---- left concatenation
-
-pub left_concatenation_made : (opening : ℕ) (first : Box LeftSide) (others : Vec NextLeftSide) (closing : ℕ) → left_concatenation_tree (roll-LeftConcatenation (record { opening = opening; first = first; others = others; closing = closing })) ≡ leaf opening ▸ left_side_tree first.value ▸ repeated_tree next_left_side_tree others.items ▸ leaf closing
-unfolding left_side_tree roll-LeftConcatenation roll
-left_concatenation_made opening first others closing = ap (λ (t : Tree). leaf opening ▸ left_side_tree first.value ▸ t ▸ leaf closing) (next_left_side_row_of others)
+concatenation_left_side concatenation = rw (left_sides_first concatenation.sides.items, left_sides_further concatenation.sides.items concatenation.sides.separators.items) refl

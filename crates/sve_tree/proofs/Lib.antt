@@ -4,4 +4,7 @@ pub mod TypeTrees
 pub mod LeftSideTrees
 pub mod StatementTrees
 pub mod ItemTrees
-pub mod Leaves
+pub mod Firsts
+pub mod Groups
+pub mod Numbers
+pub mod WordKinds

@@ -1,32 +1,28 @@
 -- The tree of each variant: statements.
 use Rattle.std.specs.Global.{Box, Vec}
-use Rattle.std.proofs.Common.{ℕ, Option, Some, None, ◌≡◌, refl, ap, ◌∙◌}
+use Rattle.std.proofs.Common.{ℕ, List, ◌∷◌, map, Option, Some, None, ◌≡◌, refl, ap, ◌∙◌}
 use Rattle.sve_grammar.specs.Reading.{Tree, leaf, left, right, turn}
-use Rattle.sve_tree.specs.Shape.{◌▸◌, way, final, optional_tree, repeated_tree, word_tree}
+use Rattle.sve_tree.specs.Shape.{◌▸◌, way, final, optional_tree, repeated_tree, first_tree, others_tree, first_of, others_of, row_first, row_rest, mark_tree}
+use Rattle.sve_tree.proofs.Shapes.{first_map, others_map}
 use denote.Hole.Carrier.{roll}
-use Rattle.sve_tree.specs.declared.word.Word.{Word}
+use Rattle.sve_tree.specs.declared.row.Row.{Row}
+use Rattle.sve_tree.specs.declared.word.Mark.{Mark}
 use Rattle.sve_tree.specs.declared.word.Lifetime.{Lifetime}
-use Rattle.sve_tree.specs.Words.{lifetime_tree, scoped_name_tree, label_tree, uniqueness_tree, case_keyword_tree}
-use Rattle.sve_tree.specs.declared.word.ScopedName.{ScopedName}
 use Rattle.sve_tree.specs.declared.word.Uniqueness.{Uniqueness}
+use Rattle.sve_tree.specs.Words.{lifetime_tree, scoped_name_tree, label_tree, uniqueness_tree}
 use Rattle.sve_tree.specs.declared.expression.Expr.{Expr}
 use Rattle.sve_tree.specs.declared.expression.Parenthesized.{Parenthesized}
-use Rattle.sve_tree.specs.Expressions.{parenthesized_tree, next_expression_tree, select_tree, tree_at}
-use Rattle.sve_tree.specs.declared.expression.NextExpression.{NextExpression}
-use Rattle.sve_tree.specs.declared.expression.Select.{Select}
-use Rattle.sve_tree.specs.declared.data_type.Declarator.{Declarator}
-use Rattle.sve_tree.specs.Types.{declarator_tree}
+use Rattle.sve_tree.specs.Expressions.{parenthesized_tree, select_tree, tree_at}
 use Rattle.sve_tree.specs.declared.declaration.Parameters.{Parameters}
-use Rattle.sve_tree.specs.Declarations.{parameters_tree, typedef_tree, declaration_end_tree, variable_declaration_tree, data_declaration_tree}
 use Rattle.sve_tree.specs.declared.declaration.Typedef.{Typedef}
-use Rattle.sve_tree.specs.declared.declaration.DeclarationEnd.{DeclarationEnd}
 use Rattle.sve_tree.specs.declared.declaration.VariableDeclaration.{VariableDeclaration}
 use Rattle.sve_tree.specs.declared.declaration.DataDeclaration.{DataDeclaration}
-use Rattle.sve_tree.specs.Statements.{statement_tail_tree, stmt_tree, block_tree, block_item_tree, local_declaration_tree, if_statement_tree, else_branch_tree, case_statement_tree, case_item_tree, for_statement_tree, foreach_statement_tree, loop_statement_tree, do_statement_tree, return_statement_tree, system_task_tree, void_call_tree, step_statement_tree, concatenation_assignment_tree, name_statement_tree, block_item_row, case_item_row}
+use Rattle.sve_tree.specs.Declarations.{parameters_tree, typedef_tree, variable_declaration_tree}
+use Rattle.sve_tree.specs.Statements.{statement_tail_tree, stmt_tree, block_tree, block_item_tree, local_tree, block_data_tree, named_declaration_tree, if_statement_tree, else_branch_tree, case_statement_tree, case_item_tree, for_statement_tree, foreach_statement_tree, loop_statement_tree, do_statement_tree, return_statement_tree, system_task_tree, void_call_tree, step_statement_tree, concatenation_assignment_tree, name_statement_tree, block_item_row, case_item_trees}
 use Rattle.sve_tree.specs.declared.statement.Stmt.{Stmt}
 use Rattle.sve_tree.specs.declared.statement.Block.{Block, Row_of-BlockItem, end_of-BlockItem, items-the_row-BlockItem, more_of-BlockItem}
 use Rattle.sve_tree.specs.declared.statement.BlockItem.{BlockItem}
-use Rattle.sve_tree.specs.declared.statement.LocalDeclaration.{LocalDeclaration}
+use Rattle.sve_tree.specs.declared.statement.NamedDeclaration.{NamedDeclaration}
 use Rattle.sve_tree.specs.declared.statement.IfStatement.{IfStatement, roll-IfStatement}
 use Rattle.sve_tree.specs.declared.statement.ElseBranch.{ElseBranch}
 use Rattle.sve_tree.specs.declared.statement.CaseStatement.{CaseStatement, Row_of-CaseItem, end_of-CaseItem, items-the_row-CaseItem, more_of-CaseItem}
@@ -56,13 +52,19 @@ block_item_row_is (more_of-BlockItem block_item rest) = ap (λ (t : Tree). turn 
 pub block_item_row_of : (xs : Vec BlockItem) → block_item_row (hidden-the_row-BlockItem-0 xs) ≡ repeated_tree block_item_tree xs.items
 block_item_row_of xs = block_item_row_is (hidden-the_row-BlockItem-0 xs) ∙ ap (repeated_tree block_item_tree) (items_hidden-the_row-BlockItem-0 xs)
 
-case_item_row_is : {n : _} (row : Row_of-CaseItem n) → case_item_row row ≡ repeated_tree case_item_tree (items-the_row-CaseItem n row)
-unfolding stmt_tree repeated_tree
-case_item_row_is end_of-CaseItem = refl
-case_item_row_is (more_of-CaseItem case_item rest) = ap (λ (t : Tree). turn (case_item_tree case_item) t) (case_item_row_is rest)
+case_item_trees_are : {n : _} (row : Row_of-CaseItem n) → case_item_trees row ≡ map case_item_tree (items-the_row-CaseItem n row)
+unfolding stmt_tree
+case_item_trees_are end_of-CaseItem = refl
+case_item_trees_are (more_of-CaseItem item rest) = ap (λ (ts : List Tree). case_item_tree item ∷ ts) (case_item_trees_are rest)
 
-pub case_item_row_of : (xs : Vec CaseItem) → case_item_row (hidden-the_row-CaseItem-1 xs) ≡ repeated_tree case_item_tree xs.items
-case_item_row_of xs = case_item_row_is (hidden-the_row-CaseItem-1 xs) ∙ ap (repeated_tree case_item_tree) (items_hidden-the_row-CaseItem-1 xs)
+case_item_trees_of : (xs : Vec CaseItem) → case_item_trees (hidden-the_row-CaseItem-1 xs) ≡ map case_item_tree xs.items
+case_item_trees_of xs = case_item_trees_are (hidden-the_row-CaseItem-1 xs) ∙ ap (map case_item_tree) (items_hidden-the_row-CaseItem-1 xs)
+
+pub case_items_first : (xs : Vec CaseItem) → first_of (case_item_trees (hidden-the_row-CaseItem-1 xs)) ≡ first_tree case_item_tree xs.items
+case_items_first xs = ap first_of (case_item_trees_of xs) ∙ first_map case_item_tree xs.items
+
+pub case_items_others : (xs : Vec CaseItem) → others_of (case_item_trees (hidden-the_row-CaseItem-1 xs)) ≡ others_tree case_item_tree xs.items
+case_items_others xs = ap others_of (case_item_trees_of xs) ∙ others_map case_item_tree xs.items
 
 -- ---- stmt
 
@@ -74,13 +76,13 @@ pub block_stmt : (block : Box Block) → stmt_tree (is_stmt.Block block) ≡ way
 unfolding stmt_tree
 block_stmt block = ap (λ (t : Tree). way 1 (leaf block.value.begin ▸ optional_tree label_tree block.value.label ▸ t ▸ leaf block.value.end ▸ optional_tree label_tree block.value.end_label)) (block_item_row_of block.value.items)
 
-pub if_stmt : (uniqueness : Option (Word Uniqueness)) (statement : Box IfStatement) → stmt_tree (is_stmt.If uniqueness statement) ≡ way 2 (optional_tree (word_tree uniqueness_tree) uniqueness ▸ left (if_statement_tree statement.value))
+pub if_stmt : (uniqueness : Option (Mark Uniqueness)) (statement : Box IfStatement) → stmt_tree (is_stmt.If uniqueness statement) ≡ way 2 (optional_tree (mark_tree uniqueness_tree) uniqueness ▸ left (if_statement_tree statement.value))
 unfolding stmt_tree
 if_stmt uniqueness statement = refl
 
-pub case_stmt : (uniqueness : Option (Word Uniqueness)) (statement : Box CaseStatement) → stmt_tree (is_stmt.Case uniqueness statement) ≡ way 2 (optional_tree (word_tree uniqueness_tree) uniqueness ▸ right (case_statement_tree statement.value))
+pub case_stmt : (uniqueness : Option (Mark Uniqueness)) (statement : Box CaseStatement) → stmt_tree (is_stmt.Case uniqueness statement) ≡ way 2 (optional_tree (mark_tree uniqueness_tree) uniqueness ▸ right (case_statement_tree statement.value))
 unfolding stmt_tree
-case_stmt uniqueness statement = ap (λ (t : Tree). way 2 (optional_tree (word_tree uniqueness_tree) uniqueness ▸ right (word_tree case_keyword_tree statement.value.keyword ▸ parenthesized_tree statement.value.selector ▸ case_item_tree statement.value.first ▸ t ▸ leaf statement.value.end))) (case_item_row_of statement.value.others)
+case_stmt uniqueness statement = rw (case_items_first statement.value.items, case_items_others statement.value.items) refl
 
 pub for_stmt : (statement : Box ForStatement) → stmt_tree (is_stmt.For statement) ≡ way 3 (for_statement_tree statement.value)
 unfolding stmt_tree
@@ -132,15 +134,15 @@ name_stmt statement = refl
 
 -- ---- block item
 
-pub local_block_item : (lifetime : Word Lifetime) (declaration : LocalDeclaration) (semicolon : ℕ) → block_item_tree (is_block_item.Local lifetime declaration semicolon) ≡ way 0 (word_tree lifetime_tree lifetime ▸ local_declaration_tree declaration ▸ leaf semicolon)
+pub local_block_item : (lifetime : Mark Lifetime) (declaration : Box DataDeclaration) → block_item_tree (is_block_item.Local lifetime declaration) ≡ way 0 (mark_tree lifetime_tree lifetime ▸ local_tree declaration.value.data_type declaration.value.declarators ▸ leaf declaration.value.semicolon)
 unfolding stmt_tree
-local_block_item lifetime declaration semicolon = refl
+local_block_item lifetime declaration = refl
 
 pub variable_block_item : (declaration : Box VariableDeclaration) → block_item_tree (is_block_item.Variable declaration) ≡ way 1 (variable_declaration_tree declaration.value)
 unfolding stmt_tree
 variable_block_item declaration = refl
 
-pub data_block_item : (declaration : Box DataDeclaration) → block_item_tree (is_block_item.Data declaration) ≡ way 2 (data_declaration_tree declaration.value)
+pub data_block_item : (declaration : Box DataDeclaration) → block_item_tree (is_block_item.Data declaration) ≡ block_data_tree declaration.value.data_type declaration.value.declarators declaration.value.semicolon
 unfolding stmt_tree
 data_block_item declaration = refl
 
@@ -152,9 +154,9 @@ pub typedef_block_item : (declaration : Box Typedef) → block_item_tree (is_blo
 unfolding stmt_tree
 typedef_block_item declaration = refl
 
-pub named_data_block_item : (name : ScopedName) (selects : Vec Select) (declarator : Declarator) (end : DeclarationEnd) (semicolon : ℕ) → block_item_tree (is_block_item.NamedData name selects declarator end semicolon) ≡ way 5 (scoped_name_tree name ▸ repeated_tree select_tree selects.items ▸ right (declarator_tree declarator ▸ declaration_end_tree end) ▸ leaf semicolon)
+pub named_data_block_item : (declaration : Box NamedDeclaration) → block_item_tree (is_block_item.NamedData declaration) ≡ way 5 (named_declaration_tree declaration.value)
 unfolding stmt_tree
-named_data_block_item name selects declarator end semicolon = refl
+named_data_block_item declaration = refl
 
 pub name_block_item : (statement : Box NameStatement) → block_item_tree (is_block_item.Name statement) ≡ way 5 (scoped_name_tree statement.value.name ▸ repeated_tree select_tree statement.value.selects.items ▸ left (statement_tail_tree statement.value.tail) ▸ leaf statement.value.semicolon)
 unfolding stmt_tree
@@ -177,6 +179,6 @@ pub default_case_item : (keyword : ℕ) (colon : Option ℕ) (statement : Box St
 unfolding stmt_tree
 default_case_item keyword colon statement = refl
 
-pub labels_case_item : (first : Box Expr) (others : Vec NextExpression) (colon : ℕ) (statement : Box Stmt) → case_item_tree (is_case_item.Labels first others colon statement) ≡ right (tree_at 13 first.value ▸ repeated_tree next_expression_tree others.items ▸ leaf colon ▸ stmt_tree statement.value)
+pub labels_case_item : (labels : Row Expr ℕ) (colon : ℕ) (statement : Box Stmt) → case_item_tree (is_case_item.Labels labels colon statement) ≡ right (row_first (tree_at 13) labels ▸ row_rest (tree_at 13) leaf labels ▸ leaf colon ▸ stmt_tree statement.value)
 unfolding stmt_tree
-labels_case_item first others colon statement = refl
+labels_case_item labels colon statement = refl

@@ -1,16 +1,17 @@
 -- The tree of each variant: data types.
 use Rattle.std.specs.Global.{Box, Vec}
-use Rattle.std.proofs.Common.{ℕ, Option, ◌≡◌, refl, ap, ◌∙◌}
-use Rattle.sve_grammar.specs.Reading.{Tree, leaf, none, left, right, turn}
-use Rattle.sve_tree.specs.Shape.{◌▸◌, way, final, optional_tree, repeated_tree, word_tree}
+use Rattle.std.proofs.Common.{ℕ, List, [], ◌∷◌, map, Option, ◌≡◌, refl, ap, ◌∙◌}
+use Rattle.sve_grammar.specs.Reading.{Tree, leaf, none, left, right}
+use Rattle.sve_tree.specs.Shape.{◌▸◌, way, final, optional_tree, repeated_tree, first_tree, others_tree, first_of, others_of, row_first, row_rest, BeginsWith, mark_tree}
+use Rattle.sve_tree.proofs.Shapes.{first_map, others_map}
 use denote.Hole.Carrier.{roll}
-use Rattle.sve_tree.specs.declared.word.Word.{Word}
+use Rattle.sve_tree.specs.declared.word.Mark.{Mark}
 use Rattle.sve_tree.specs.declared.word.Sign.{Sign}
-use Rattle.sve_tree.specs.Words.{sign_tree, next_name_tree}
+use Rattle.sve_tree.specs.Words.{sign_tree}
 use Rattle.sve_tree.specs.declared.expression.Dimension.{Dimension}
 use Rattle.sve_tree.specs.Expressions.{dimension_tree}
 use Rattle.sve_tree.specs.declared.data_type.DataType.{DataType}
-use Rattle.sve_tree.specs.Types.{data_type_tree, atom_type_tree, vector_type_tree, named_type_tree, enumeration_tree, structure_tree, members_tree, declarator_tree, type_ref_tree, members_row}
+use Rattle.sve_tree.specs.Types.{data_type_tree, atom_type_tree, vector_type_tree, named_type_tree, enumeration_tree, structure_tree, members_tree, declarator_tree, type_ref_tree, members_trees, ranged_tree}
 use Rattle.sve_tree.specs.declared.data_type.AtomType.{AtomType}
 use Rattle.sve_tree.specs.declared.data_type.VectorType.{VectorType}
 use Rattle.sve_tree.specs.declared.data_type.NamedType.{NamedType}
@@ -24,13 +25,19 @@ use Rattle.sve_tree.specs.declared.data_type.TypeRef.TheVariants as is_type_ref
 
 -- ---- rows
 
-members_row_is : {n : _} (row : Row_of-Members n) → members_row row ≡ repeated_tree members_tree (items-the_row-Members n row)
-unfolding data_type_tree repeated_tree
-members_row_is end_of-Members = refl
-members_row_is (more_of-Members data_type first others semicolon rest) = ap (λ (t : Tree). turn (type_ref_tree data_type ▸ leaf first ▸ repeated_tree next_name_tree others.items ▸ leaf semicolon) t) (members_row_is rest)
+members_trees_are : {n : _} (row : Row_of-Members n) → members_trees row ≡ map members_tree (items-the_row-Members n row)
+unfolding data_type_tree
+members_trees_are end_of-Members = refl
+members_trees_are (more_of-Members data_type names semicolon rest) = ap (λ (ts : List Tree). (type_ref_tree data_type ▸ row_first leaf names ▸ row_rest leaf leaf names ▸ leaf semicolon) ∷ ts) (members_trees_are rest)
 
-pub members_row_of : (xs : Vec Members) → members_row (hidden-the_row-Members-0 xs) ≡ repeated_tree members_tree xs.items
-members_row_of xs = members_row_is (hidden-the_row-Members-0 xs) ∙ ap (repeated_tree members_tree) (items_hidden-the_row-Members-0 xs)
+members_trees_of : (xs : Vec Members) → members_trees (hidden-the_row-Members-0 xs) ≡ map members_tree xs.items
+members_trees_of xs = members_trees_are (hidden-the_row-Members-0 xs) ∙ ap (map members_tree) (items_hidden-the_row-Members-0 xs)
+
+pub members_first : (xs : Vec Members) → first_of (members_trees (hidden-the_row-Members-0 xs)) ≡ first_tree members_tree xs.items
+members_first xs = ap first_of (members_trees_of xs) ∙ first_map members_tree xs.items
+
+pub members_others : (xs : Vec Members) → others_of (members_trees (hidden-the_row-Members-0 xs)) ≡ others_tree members_tree xs.items
+members_others xs = ap others_of (members_trees_of xs) ∙ others_map members_tree xs.items
 
 -- ---- data type
 
@@ -56,9 +63,9 @@ struct_data_type structure = refl
 
 -- ---- structure
 
-pub structure_made : (keyword : ℕ) (packed : ℕ) (sign : Option (Word Sign)) (opening : ℕ) (first : Box Members) (others : Vec Members) (closing : ℕ) (dimensions : Vec Dimension) → structure_tree (roll-Structure (record { keyword = keyword; packed = packed; sign = sign; opening = opening; first = first; others = others; closing = closing; dimensions = dimensions })) ≡ leaf keyword ▸ leaf packed ▸ optional_tree (word_tree sign_tree) sign ▸ leaf opening ▸ members_tree first.value ▸ repeated_tree members_tree others.items ▸ leaf closing ▸ repeated_tree dimension_tree dimensions.items
+pub structure_made : (keyword : ℕ) (packed : ℕ) (sign : Option (Mark Sign)) (opening : ℕ) (members : Vec Members) (closing : ℕ) (dimensions : Vec Dimension) → structure_tree (roll-Structure (record { keyword = keyword; packed = packed; sign = sign; opening = opening; members = members; closing = closing; dimensions = dimensions })) ≡ leaf keyword ▸ leaf packed ▸ optional_tree (mark_tree sign_tree) sign ▸ leaf opening ▸ first_tree members_tree members.items ▸ others_tree members_tree members.items ▸ leaf closing ▸ repeated_tree dimension_tree dimensions.items
 unfolding data_type_tree roll-Structure roll
-structure_made keyword packed sign opening first others closing dimensions = ap (λ (t : Tree). leaf keyword ▸ leaf packed ▸ optional_tree (word_tree sign_tree) sign ▸ leaf opening ▸ members_tree first.value ▸ t ▸ leaf closing ▸ repeated_tree dimension_tree dimensions.items) (members_row_of others)
+structure_made keyword packed sign opening members closing dimensions = rw (members_first members, members_others members) refl
 
 -- ---- type ref
 
@@ -70,26 +77,12 @@ pub named_type_ref : (named : NamedType) → type_ref_tree (is_type_ref.Named na
 unfolding data_type_tree
 named_type_ref named = refl
 
-pub written_name_type_ref : (data_type : DataType) (declarator : Declarator) → type_ref_tree (is_type_ref.WrittenName data_type declarator) ≡ way 0 (data_type_tree data_type ▸ declarator_tree declarator)
-unfolding data_type_tree
-written_name_type_ref data_type declarator = refl
+-- ---- a declared name behind at most packed dimensions
 
-pub signed_name_type_ref : (sign : Word Sign) (dimensions : Vec Dimension) (declarator : Declarator) → type_ref_tree (is_type_ref.SignedName sign dimensions declarator) ≡ way 1 (word_tree sign_tree sign ▸ repeated_tree dimension_tree dimensions.items ▸ declarator_tree declarator)
-unfolding data_type_tree
-signed_name_type_ref sign dimensions declarator = refl
+pub bare_name : (plain : Tree → Tree) (declarator : Declarator) → ranged_tree plain [] declarator ≡ final 3 (leaf declarator.name ▸ plain (repeated_tree dimension_tree declarator.dimensions.items ▸ right none))
+unfolding ranged_tree
+bare_name plain declarator = refl
 
-pub ranged_name_type_ref : (first : Dimension) (others : Vec Dimension) (declarator : Declarator) → type_ref_tree (is_type_ref.RangedName first others declarator) ≡ way 2 (dimension_tree first ▸ repeated_tree dimension_tree others.items ▸ declarator_tree declarator)
-unfolding data_type_tree
-ranged_name_type_ref first others declarator = refl
-
-pub scoped_name_type_ref : (scope : ℕ) (colons : ℕ) (name : ℕ) (dimensions : Vec Dimension) (declarator : Declarator) → type_ref_tree (is_type_ref.ScopedName scope colons name dimensions declarator) ≡ final 3 (leaf scope ▸ left (leaf colons ▸ leaf name ▸ repeated_tree dimension_tree dimensions.items ▸ declarator_tree declarator))
-unfolding data_type_tree
-scoped_name_type_ref scope colons name dimensions declarator = refl
-
-pub named_name_type_ref : (name : ℕ) (dimensions : Vec Dimension) (declarator : Declarator) → type_ref_tree (is_type_ref.NamedName name dimensions declarator) ≡ final 3 (leaf name ▸ right (repeated_tree dimension_tree dimensions.items ▸ left (declarator_tree declarator)))
-unfolding data_type_tree
-named_name_type_ref name dimensions declarator = refl
-
-pub bare_name_type_ref : (declarator : Declarator) → type_ref_tree (is_type_ref.BareName declarator) ≡ final 3 (leaf declarator.name ▸ right (repeated_tree dimension_tree declarator.dimensions.items ▸ right none))
-unfolding data_type_tree
-bare_name_type_ref declarator = refl
+pub ranged_name : (plain : Tree → Tree) (first : Dimension) (dimensions : List Dimension) (declarator : Declarator) → BeginsWith first dimensions → ranged_tree plain dimensions declarator ≡ way 2 (dimension_tree first ▸ others_tree dimension_tree dimensions ▸ declarator_tree declarator)
+unfolding ranged_tree others_tree BeginsWith
+ranged_name plain first dimensions declarator h = rw h.1 refl

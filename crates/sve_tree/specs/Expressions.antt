@@ -2,27 +2,23 @@
 use Rattle.std.specs.Global.{Box}
 use Rattle.std.specs.Prelude.{ℕ, zero, suc, ◌-◌, Bool, true, false, ◌&&◌, List, [], ◌∷◌, ◌==◌, nat_lt, if◌then◌else◌}
 use Rattle.sve_grammar.specs.Reading.{Tree, leaf, none, pair, left, right, turn, ended}
-use Rattle.sve_tree.specs.Shape.{◌▸◌, way, final, optional_tree, word_tree}
+use Rattle.sve_tree.specs.Shape.{◌▸◌, way, final, misplaced, optional_tree, first_of, further_of, row_first, row_rest, row_tree, mark_tree}
 use Rattle.sve_tree.specs.Words.{sign_tree, integer_keyword_tree, unary_operator_tree, binary_operator_tree, implication_operator_tree, scoped_name_tree}
 use Rattle.sve_tree.specs.declared.word.BinaryOperator.{BinaryOperator}
-use Rattle.sve_tree.specs.declared.expression.Expr.{Expr, Row_of-Dimension, Row_of-NextExpression, Row_of-Operation, Row_of-Postfix, Row_of-RangeSelect, Row_of-Select, end_of-Dimension, end_of-NextExpression, end_of-Operation, end_of-Postfix, end_of-RangeSelect, end_of-Select, more_of-Dimension, more_of-NextExpression, more_of-Operation, more_of-Postfix, more_of-RangeSelect, more_of-Select}
-use Rattle.sve_tree.specs.declared.expression.Operation.{Operation, Row_of-NextValueRange, end_of-NextValueRange, more_of-NextValueRange}
+use Rattle.sve_tree.specs.declared.expression.Expr.{Expr, Row_of-Arg, Row_of-Dimension, Row_of-Expr, Row_of-Operation, Row_of-PatternItem, Row_of-Postfix, Row_of-RangeSelect, Row_of-Select, end_of-Arg, end_of-Dimension, end_of-Expr, end_of-Operation, end_of-PatternItem, end_of-Postfix, end_of-RangeSelect, end_of-Select, more_of-Arg, more_of-Dimension, more_of-Expr, more_of-Operation, more_of-PatternItem, more_of-Postfix, more_of-RangeSelect, more_of-Select}
+use Rattle.sve_tree.specs.declared.expression.Operation.{Operation, Row_of-ValueRange, end_of-ValueRange, more_of-ValueRange}
 use Rattle.sve_tree.specs.declared.expression.Parenthesized.{Parenthesized}
 use Rattle.sve_tree.specs.declared.expression.Cast.{Cast}
-use Rattle.sve_tree.specs.declared.expression.NextExpression.{NextExpression}
 use Rattle.sve_tree.specs.declared.expression.Dimension.{Dimension}
 use Rattle.sve_tree.specs.declared.expression.Range.{Range}
 use Rattle.sve_tree.specs.declared.expression.RangeSelect.{RangeSelect}
 use Rattle.sve_tree.specs.declared.expression.Select.{Select}
 use Rattle.sve_tree.specs.declared.expression.Postfix.{Postfix}
-use Rattle.sve_tree.specs.declared.expression.ArgumentList.{ArgumentList, ArgumentList', Row_of-NextArgument, end_of-NextArgument, more_of-NextArgument}
+use Rattle.sve_tree.specs.declared.expression.ArgumentList.{ArgumentList}
 use Rattle.sve_tree.specs.declared.expression.Arg.{Arg}
-use Rattle.sve_tree.specs.declared.expression.NextArgument.{NextArgument}
 use Rattle.sve_tree.specs.declared.expression.ValueRange.{ValueRange}
-use Rattle.sve_tree.specs.declared.expression.NextValueRange.{NextValueRange}
-use Rattle.sve_tree.specs.declared.expression.Pattern.{Pattern, Pattern', Row_of-NextPatternItem, end_of-NextPatternItem, more_of-NextPatternItem}
+use Rattle.sve_tree.specs.declared.expression.Pattern.{Pattern}
 use Rattle.sve_tree.specs.declared.expression.PatternItem.{PatternItem}
-use Rattle.sve_tree.specs.declared.expression.NextPatternItem.{NextPatternItem}
 use Rattle.sve_tree.specs.declared.word.BinaryOperator.TheVariants as is_binary_operator
 use Rattle.sve_tree.specs.declared.expression.Expr.TheVariants as is_expr
 use Rattle.sve_tree.specs.declared.expression.Operation.TheVariants as is_operation
@@ -66,8 +62,8 @@ level_of is_binary_operator.LogicalOr = 11
 
 -- the level of an operation
 abbrev pub operation_level : Operation → ℕ
-operation_level (is_operation.Binary operator at r) = level_of operator
-operation_level (is_operation.Inside' keyword opening first _ others closing) = 5
+operation_level (is_operation.Binary operator r) = level_of operator.kind
+operation_level (is_operation.Inside' keyword opening _ ranges commas closing) = 5
 
 -- the level of a chain: that of its first operation
 abbrev pub chain_level : List Operation → ℕ
@@ -102,27 +98,23 @@ height (is_expr.Unbased token) = 0
 height (is_expr.Text token) = 0
 height (is_expr.Parenthesized' opening _ value closing) = 0
 height (is_expr.ParenthesizedCast' opening _ value closing apostrophe cast_value_opening _ cast_value_value cast_value_closing) = 0
-height (is_expr.Pattern pattern) = 0
-height (is_expr.Replication' opening _ count inner_opening _ first _ others inner_closing closing _ selects) = 0
-height (is_expr.Concatenation' opening _ first _ others closing _ selects) = 0
+height (is_expr.Pattern' opening _ items commas closing) = 0
+height (is_expr.Replication' opening _ count inner_opening _ operands commas inner_closing closing _ selects) = 0
+height (is_expr.Concatenation' opening _ operands commas closing _ selects) = 0
 height (is_expr.SignCast' sign apostrophe opening _ value_value closing) = 0
 height (is_expr.Type' keyword sign _ dimensions) = 0
 height (is_expr.TypeCast' keyword sign _ dimensions apostrophe opening _ value_value closing) = 0
 height (is_expr.SystemName' name _ selects) = 0
-height (is_expr.SystemCall' name arguments _ selects) = 0
+height (is_expr.SystemCall' name opening _ arguments commas closing _ selects) = 0
 height (is_expr.Name' name _ postfixes) = 0
-height (is_expr.Unary' operator at _ operand) = 0
-height (is_expr.Operations' _ first _ rest) = operation_row_level rest
+height (is_expr.Unary' operator _ operand) = 0
+height (is_expr.Operations' _ first _ operations) = operation_row_level operations
 height (is_expr.Conditional' _ condition question _ chosen colon _ otherwise) = 12
-height (is_expr.Implication' _ l operator at _ r) = 13
+height (is_expr.Implication' _ l operator _ r) = 13
 
 -- one level up, with no operator there
 abbrev pub wrap : ℕ → Tree → Tree
 wrap n t = if nat_lt n 11 then pair t ended else pair t (right none)
-
--- What the grammar has no place for. No reading gives such a tree, so that no tree of a parser is shown as one; its tokens are there.
-abbrev pub misplaced : Tree → Tree
-misplaced t = turn t none
 
 -- what stands at level h, at level n; nothing stands below its own level
 unfoldable pub raise : ℕ → ℕ → Tree → Tree
@@ -147,23 +139,23 @@ unfoldable mutual
   own (is_expr.Text token) = right (way 3 (leaf token))
   own (is_expr.Parenthesized' opening _ value closing) = right (way 4 ((leaf opening ▸ raise 13 (height value) (own value) ▸ leaf closing) ▸ right none))
   own (is_expr.ParenthesizedCast' opening _ value closing apostrophe cast_value_opening _ cast_value_value cast_value_closing) = right (way 4 ((leaf opening ▸ raise 13 (height value) (own value) ▸ leaf closing) ▸ left (leaf apostrophe ▸ leaf cast_value_opening ▸ raise 13 (height cast_value_value) (own cast_value_value) ▸ leaf cast_value_closing)))
-  own (is_expr.Pattern pattern) = right (way 5 (pattern_tree pattern))
-  own (is_expr.Replication' opening _ count inner_opening _ first _ others inner_closing closing _ selects) = right (way 6 (leaf opening ▸ raise 13 (height count) (own count) ▸ left (leaf inner_opening ▸ raise 13 (height first) (own first) ▸ next_expression_row others ▸ leaf inner_closing) ▸ leaf closing ▸ range_select_row selects))
-  own (is_expr.Concatenation' opening _ first _ others closing _ selects) = right (way 6 (leaf opening ▸ raise 13 (height first) (own first) ▸ right (next_expression_row others) ▸ leaf closing ▸ range_select_row selects))
-  own (is_expr.SignCast' sign apostrophe opening _ value_value closing) = right (way 7 (word_tree sign_tree sign ▸ (leaf apostrophe ▸ leaf opening ▸ raise 13 (height value_value) (own value_value) ▸ leaf closing)))
-  own (is_expr.Type' keyword sign _ dimensions) = right (way 8 (word_tree integer_keyword_tree keyword ▸ optional_tree (word_tree sign_tree) sign ▸ dimension_row dimensions ▸ right none))
-  own (is_expr.TypeCast' keyword sign _ dimensions apostrophe opening _ value_value closing) = right (way 8 (word_tree integer_keyword_tree keyword ▸ optional_tree (word_tree sign_tree) sign ▸ dimension_row dimensions ▸ left (leaf apostrophe ▸ leaf opening ▸ raise 13 (height value_value) (own value_value) ▸ leaf closing)))
+  own (is_expr.Pattern' opening _ items commas closing) = right (way 5 (leaf opening ▸ first_of (pattern_item_trees items) ▸ further_of (pattern_item_trees items) commas.items ▸ leaf closing))
+  own (is_expr.Replication' opening _ count inner_opening _ operands commas inner_closing closing _ selects) = right (way 6 (leaf opening ▸ raise 13 (height count) (own count) ▸ left (leaf inner_opening ▸ first_of (expression_trees operands) ▸ further_of (expression_trees operands) commas.items ▸ leaf inner_closing) ▸ leaf closing ▸ range_select_row selects))
+  own (is_expr.Concatenation' opening _ operands commas closing _ selects) = right (way 6 (leaf opening ▸ first_of (expression_trees operands) ▸ right (further_of (expression_trees operands) commas.items) ▸ leaf closing ▸ range_select_row selects))
+  own (is_expr.SignCast' sign apostrophe opening _ value_value closing) = right (way 7 (mark_tree sign_tree sign ▸ (leaf apostrophe ▸ leaf opening ▸ raise 13 (height value_value) (own value_value) ▸ leaf closing)))
+  own (is_expr.Type' keyword sign _ dimensions) = right (way 8 (mark_tree integer_keyword_tree keyword ▸ optional_tree (mark_tree sign_tree) sign ▸ dimension_row dimensions ▸ right none))
+  own (is_expr.TypeCast' keyword sign _ dimensions apostrophe opening _ value_value closing) = right (way 8 (mark_tree integer_keyword_tree keyword ▸ optional_tree (mark_tree sign_tree) sign ▸ dimension_row dimensions ▸ left (leaf apostrophe ▸ leaf opening ▸ raise 13 (height value_value) (own value_value) ▸ leaf closing)))
   own (is_expr.SystemName' name _ selects) = right (way 9 (leaf name ▸ right none ▸ select_row selects))
-  own (is_expr.SystemCall' name arguments _ selects) = right (way 9 (leaf name ▸ left (argument_list_tree arguments) ▸ select_row selects))
+  own (is_expr.SystemCall' name opening _ arguments commas closing _ selects) = right (way 9 (leaf name ▸ left (leaf opening ▸ (first_of (argument_trees arguments) ▸ further_of (argument_trees arguments) commas.items) ▸ leaf closing) ▸ select_row selects))
   own (is_expr.Name' name _ postfixes) = right (final 10 (scoped_name_tree name ▸ postfix_row postfixes))
-  own (is_expr.Unary' operator at _ operand) = left (unary_operator_tree operator at ▸ raise 0 (height operand) (own operand))
-  own (is_expr.Operations' _ first _ rest) = in_place (is_chain_row rest) (raise (operation_row_level rest - 1) (height first) (own first) ▸ operation_row rest)
+  own (is_expr.Unary' operator _ operand) = left (mark_tree unary_operator_tree operator ▸ raise 0 (height operand) (own operand))
+  own (is_expr.Operations' _ first _ operations) = in_place (is_chain_row operations) (raise (operation_row_level operations - 1) (height first) (own first) ▸ operation_row operations)
   own (is_expr.Conditional' _ condition question _ chosen colon _ otherwise) = raise 11 (height condition) (own condition) ▸ left (leaf question ▸ raise 13 (height chosen) (own chosen) ▸ leaf colon ▸ raise 12 (height otherwise) (own otherwise))
-  own (is_expr.Implication' _ l operator at _ r) = raise 12 (height l) (own l) ▸ left (implication_operator_tree operator at ▸ raise 13 (height r) (own r))
+  own (is_expr.Implication' _ l operator _ r) = raise 12 (height l) (own l) ▸ left (mark_tree implication_operator_tree operator ▸ raise 13 (height r) (own r))
 
   pub operation_tree : Operation → Tree
-  operation_tree (is_operation.Binary operator at r) = operation_way operator (binary_operator_tree operator at ▸ raise (level_of operator - 1) (height r) (own r))
-  operation_tree (is_operation.Inside' keyword opening first _ others closing) = right (leaf keyword ▸ leaf opening ▸ value_range_tree first ▸ next_value_range_row others ▸ leaf closing)
+  operation_tree (is_operation.Binary operator r) = operation_way operator.kind (mark_tree binary_operator_tree operator ▸ raise (level_of operator.kind - 1) (height r) (own r))
+  operation_tree (is_operation.Inside' keyword opening _ ranges commas closing) = right (leaf keyword ▸ leaf opening ▸ first_of (value_range_trees ranges) ▸ further_of (value_range_trees ranges) commas.items ▸ leaf closing)
 
   pub dimension_tree : Dimension → Tree
   dimension_tree (is_dimension.Size' opening _ size closing) = leaf opening ▸ raise 13 (height size) (own size) ▸ right none ▸ leaf closing
@@ -181,12 +173,9 @@ unfoldable mutual
 
   pub postfix_tree : Postfix → Tree
   postfix_tree (is_postfix.Select select) = way 0 (select_tree select)
-  postfix_tree (is_postfix.Call arguments) = way 1 (argument_list_tree arguments)
+  postfix_tree (is_postfix.Call' opening _ arguments commas closing) = way 1 (leaf opening ▸ (first_of (argument_trees arguments) ▸ further_of (argument_trees arguments) commas.items) ▸ leaf closing)
   postfix_tree (is_postfix.Cast' apostrophe opening _ value_value closing) = way 2 (leaf apostrophe ▸ leaf opening ▸ raise 13 (height value_value) (own value_value) ▸ leaf closing)
-  postfix_tree (is_postfix.Pattern pattern) = final 3 (pattern_tree pattern)
-
-  pub argument_list_tree : ArgumentList → Tree
-  argument_list_tree (ArgumentList' opening first _ others closing) = leaf opening ▸ (arg_tree first ▸ next_argument_row others) ▸ leaf closing
+  postfix_tree (is_postfix.Pattern' opening _ items commas closing) = final 3 (leaf opening ▸ first_of (pattern_item_trees items) ▸ further_of (pattern_item_trees items) commas.items ▸ leaf closing)
 
   pub arg_tree : Arg → Tree
   arg_tree (is_arg.Wildcard token) = way 0 (leaf token)
@@ -200,18 +189,11 @@ unfoldable mutual
   value_range_tree (is_value_range.Between' opening _ low colon _ high closing) = left (leaf opening ▸ raise 13 (height low) (own low) ▸ leaf colon ▸ raise 13 (height high) (own high) ▸ leaf closing)
   value_range_tree (is_value_range.Value' _ value) = right (raise 13 (height value) (own value))
 
-  pub pattern_tree : Pattern → Tree
-  pattern_tree (Pattern' opening first _ others closing) = leaf opening ▸ pattern_item_tree first ▸ next_pattern_item_row others ▸ leaf closing
-
   pub pattern_item_tree : PatternItem → Tree
   pattern_item_tree (is_pattern_item.Default' keyword colon _ value) = left (leaf keyword ▸ leaf colon ▸ raise 13 (height value) (own value))
   pattern_item_tree (is_pattern_item.Value' _ value) = right (raise 13 (height value) (own value) ▸ right none)
   pattern_item_tree (is_pattern_item.Keyed' _ key colon _ value) = right (raise 13 (height key) (own key) ▸ left (left (leaf colon ▸ raise 13 (height value) (own value))))
-  pattern_item_tree (is_pattern_item.Repeated' _ count opening _ first _ others closing) = right (raise 13 (height count) (own count) ▸ left (right (leaf opening ▸ raise 13 (height first) (own first) ▸ next_expression_row others ▸ leaf closing)))
-
-  pub next_expression_row : {n : _} → Row_of-NextExpression n → Tree
-  next_expression_row end_of-NextExpression = ended
-  next_expression_row (more_of-NextExpression comma value rest) = turn (leaf comma ▸ raise 13 (height value) (own value)) (next_expression_row rest)
+  pattern_item_tree (is_pattern_item.Repeated' _ count opening _ values commas closing) = right (raise 13 (height count) (own count) ▸ left (right (leaf opening ▸ first_of (expression_trees values) ▸ further_of (expression_trees values) commas.items ▸ leaf closing)))
 
   pub range_select_row : {n : _} → Row_of-RangeSelect n → Tree
   range_select_row end_of-RangeSelect = ended
@@ -233,17 +215,21 @@ unfoldable mutual
   operation_row end_of-Operation = ended
   operation_row (more_of-Operation operation rest) = turn (operation_tree operation) (operation_row rest)
 
-  pub next_value_range_row : {n : _} → Row_of-NextValueRange n → Tree
-  next_value_range_row end_of-NextValueRange = ended
-  next_value_range_row (more_of-NextValueRange comma range rest) = turn (leaf comma ▸ value_range_tree range) (next_value_range_row rest)
+  pub expression_trees : {n : _} → Row_of-Expr n → List Tree
+  expression_trees end_of-Expr = []
+  expression_trees (more_of-Expr e rest) = raise 13 (height e) (own e) ∷ expression_trees rest
 
-  pub next_argument_row : {n : _} → Row_of-NextArgument n → Tree
-  next_argument_row end_of-NextArgument = ended
-  next_argument_row (more_of-NextArgument comma argument rest) = turn (leaf comma ▸ arg_tree argument) (next_argument_row rest)
+  pub value_range_trees : {n : _} → Row_of-ValueRange n → List Tree
+  value_range_trees end_of-ValueRange = []
+  value_range_trees (more_of-ValueRange range rest) = value_range_tree range ∷ value_range_trees rest
 
-  pub next_pattern_item_row : {n : _} → Row_of-NextPatternItem n → Tree
-  next_pattern_item_row end_of-NextPatternItem = ended
-  next_pattern_item_row (more_of-NextPatternItem comma item rest) = turn (leaf comma ▸ pattern_item_tree item) (next_pattern_item_row rest)
+  pub argument_trees : {n : _} → Row_of-Arg n → List Tree
+  argument_trees end_of-Arg = []
+  argument_trees (more_of-Arg argument rest) = arg_tree argument ∷ argument_trees rest
+
+  pub pattern_item_trees : {n : _} → Row_of-PatternItem n → List Tree
+  pattern_item_trees end_of-PatternItem = []
+  pattern_item_trees (more_of-PatternItem item rest) = pattern_item_tree item ∷ pattern_item_trees rest
 
 -- an expression at a level
 abbrev pub tree_at : ℕ → Expr → Tree
@@ -259,17 +245,11 @@ parenthesized_tree x = leaf x.opening ▸ tree_at 13 x.value.value ▸ leaf x.cl
 abbrev pub cast_tree : Cast → Tree
 cast_tree x = leaf x.apostrophe ▸ parenthesized_tree x.value
 
-abbrev pub next_expression_tree : NextExpression → Tree
-next_expression_tree x = leaf x.comma ▸ tree_at 13 x.value
-
 abbrev pub range_select_tree : RangeSelect → Tree
 range_select_tree x = leaf x.opening ▸ range_tree x.range ▸ leaf x.closing
 
-abbrev pub next_argument_tree : NextArgument → Tree
-next_argument_tree x = leaf x.comma ▸ arg_tree x.argument
+abbrev pub argument_list_tree : ArgumentList → Tree
+argument_list_tree x = leaf x.opening ▸ row_tree arg_tree leaf x.arguments ▸ leaf x.closing
 
-abbrev pub next_value_range_tree : NextValueRange → Tree
-next_value_range_tree x = leaf x.comma ▸ value_range_tree x.range
-
-abbrev pub next_pattern_item_tree : NextPatternItem → Tree
-next_pattern_item_tree x = leaf x.comma ▸ pattern_item_tree x.item
+abbrev pub pattern_tree : Pattern → Tree
+pattern_tree x = leaf x.opening ▸ row_first pattern_item_tree x.items ▸ row_rest pattern_item_tree leaf x.items ▸ leaf x.closing

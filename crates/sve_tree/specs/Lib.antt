@@ -6,3 +6,5 @@ pub mod Declarations
 pub mod Statements
 pub mod Items
 pub mod Elements
+pub mod TokenWords
+pub mod Grouping

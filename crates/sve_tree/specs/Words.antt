@@ -1,7 +1,7 @@
 -- The trees of tokens that say which of several things is meant, and of names (IEEE 1800-2017, A.8.6, A.2.2.1, A.1.3, A.9.3).
-use Rattle.std.specs.Prelude.{ℕ}
-use Rattle.sve_grammar.specs.Reading.{Tree, leaf, left, right}
-use Rattle.sve_tree.specs.Shape.{◌▸◌, way, final, optional_tree}
+use Rattle.std.specs.Prelude.{ℕ, Option, Some, None}
+use Rattle.sve_grammar.specs.Reading.{Tree, leaf, none, left, right}
+use Rattle.sve_tree.specs.Shape.{◌▸◌, way, final}
 use Rattle.sve_tree.specs.declared.word.Sign.{Sign}
 use Rattle.sve_tree.specs.declared.word.Lifetime.{Lifetime}
 use Rattle.sve_tree.specs.declared.word.Net.{Net}
@@ -15,9 +15,8 @@ use Rattle.sve_tree.specs.declared.word.ImplicationOperator.{ImplicationOperator
 use Rattle.sve_tree.specs.declared.word.AssignmentOperator.{AssignmentOperator}
 use Rattle.sve_tree.specs.declared.word.StepOperator.{StepOperator}
 use Rattle.sve_tree.specs.declared.word.ScopedName.{ScopedName}
-use Rattle.sve_tree.specs.declared.word.ScopeMember.{ScopeMember}
+use Rattle.sve_tree.specs.declared.word.PackageScope.{PackageScope}
 use Rattle.sve_tree.specs.declared.word.Label.{Label}
-use Rattle.sve_tree.specs.declared.word.NextName.{NextName}
 use Rattle.sve_tree.specs.declared.word.Uniqueness.{Uniqueness}
 use Rattle.sve_tree.specs.declared.word.CaseKeyword.{CaseKeyword}
 use Rattle.sve_tree.specs.declared.word.LoopKeyword.{LoopKeyword}
@@ -157,17 +156,22 @@ abbrev pub step_operator_tree : StepOperator → ℕ → Tree
 step_operator_tree is_step_operator.Increment i = left (leaf i)
 step_operator_tree is_step_operator.Decrement i = right (leaf i)
 
-abbrev pub scope_member_tree : ScopeMember → Tree
-scope_member_tree x = leaf x.colons ▸ leaf x.name
+-- a name behind the package in front of it, where there is one: in the grammar the first identifier comes before it is known
+-- whether it is a package
+abbrev pub scoped_tree : Option PackageScope → ℕ → Tree
+scoped_tree None name = leaf name ▸ right none
+scoped_tree (Some scope) name = leaf scope.name ▸ left (leaf scope.colons ▸ leaf name)
+
+-- the package's name
+abbrev pub package_of : Option PackageScope → Option ℕ
+package_of None = None
+package_of (Some scope) = Some scope.name
 
 abbrev pub scoped_name_tree : ScopedName → Tree
-scoped_name_tree x = leaf x.first ▸ optional_tree scope_member_tree x.member
+scoped_name_tree x = scoped_tree x.scope x.name
 
 abbrev pub label_tree : Label → Tree
 label_tree x = leaf x.colon ▸ leaf x.name
-
-abbrev pub next_name_tree : NextName → Tree
-next_name_tree x = leaf x.comma ▸ leaf x.name
 
 abbrev pub uniqueness_tree : Uniqueness → ℕ → Tree
 uniqueness_tree is_uniqueness.Unique i = way 0 (leaf i)

@@ -1,5 +1,10 @@
+ghost use Rattle.std.specs.Prelude.{◌≡◌, Some};
+ghost use Rattle.sve_tree.specs.Shape.{first_token_of};
+ghost use Rattle.sve_tree.specs.Types.{data_type_tree, type_ref_tree};
+
 use crate::expression::{Dimension, Expr};
-use crate::word::{AtomKeyword, NextName, ScopedName, Sign, VectorKeyword, Word};
+use crate::row::Row;
+use crate::word::{AtomKeyword, Mark, ScopedName, Sign, VectorKeyword};
 
 /// A data type that begins with a keyword (IEEE 1800-2017, A.2.2.1).
 #[cycle(data_type)]
@@ -32,27 +37,43 @@ pub enum DataType {
     },
 }
 
+impl DataType {
+    /// The number of its first token.
+    #[tactic(auto, using(crate::proofs::Firsts::first_of_struct), unfolding(crate::specs::Types::data_type_tree))]
+    pub fn first_token(&self) -> u32
+        ensures { first_token_of (data_type_tree self.now) ≡ Some result }
+    {
+        match self {
+            DataType::Atom { atom } => atom.keyword.token,
+            DataType::Vector { vector } => vector.keyword.token,
+            DataType::Text { keyword } => *keyword,
+            DataType::Enum { enumeration } => enumeration.keyword,
+            DataType::Struct { structure } => structure.keyword,
+        }
+    }
+}
+
 /// An integer type with a width of its own, and its sign (6.11).
 #[derive(Clone, Copy, Debug)]
 pub struct AtomType {
     /// The type's keyword.
-    pub keyword: Word<AtomKeyword>,
+    pub keyword: Mark<AtomKeyword>,
     /// The sign, where one is written.
-    pub sign: Option<Word<Sign>>,
+    pub sign: Option<Mark<Sign>>,
 }
 
 /// An integer type of as many bits as its packed dimensions say, and its sign (6.11).
 #[derive(Drop)]
 pub struct VectorType {
     /// The type's keyword.
-    pub keyword: Word<VectorKeyword>,
+    pub keyword: Mark<VectorKeyword>,
     /// The sign, where one is written.
-    pub sign: Option<Word<Sign>>,
+    pub sign: Option<Mark<Sign>>,
     /// The packed dimensions, from left to right.
     pub dimensions: Vec<Dimension>,
 }
 
-/// A type by its name, with packed dimensions (6.18).
+/// A type by its name, with packed dimensions (6.18): `t`, `p::t [7:0]`.
 #[derive(Drop)]
 pub struct NamedType {
     /// The name.
@@ -70,10 +91,8 @@ pub struct Enumeration {
     pub base: Option<EnumBase>,
     /// `{`.
     pub opening: u32,
-    /// The first name.
-    pub first: EnumName,
-    /// The others.
-    pub others: Vec<NextEnumName>,
+    /// The names.
+    pub names: Row<EnumName>,
     /// `}`.
     pub closing: u32,
     /// The packed dimensions, from left to right.
@@ -109,13 +128,11 @@ pub struct Structure {
     /// `packed`.
     pub packed: u32,
     /// The sign, where one is written.
-    pub sign: Option<Word<Sign>>,
+    pub sign: Option<Mark<Sign>>,
     /// `{`.
     pub opening: u32,
-    /// The first members, the most significant.
-    pub first: Box<Members>,
-    /// The others.
-    pub others: Vec<Members>,
+    /// The members, at least one of them, the most significant first.
+    pub members: Vec<Members>,
     /// `}`.
     pub closing: u32,
     /// The packed dimensions, from left to right.
@@ -129,15 +146,6 @@ pub struct EnumName {
     pub name: u32,
     /// Its value, where one is written.
     pub value: Option<Initializer>,
-}
-
-/// A comma and a name of an enumeration.
-#[derive(Drop)]
-pub struct NextEnumName {
-    /// `,`.
-    pub comma: u32,
-    /// The name.
-    pub name: EnumName,
 }
 
 /// `=` and a value.
@@ -155,10 +163,8 @@ pub struct Initializer {
 pub struct Members {
     /// Their type.
     pub data_type: TypeRef,
-    /// The first name.
-    pub first: u32,
-    /// The others.
-    pub others: Vec<NextName>,
+    /// The names.
+    pub names: Row<u32>,
     /// `;`.
     pub semicolon: u32,
 }
@@ -172,70 +178,66 @@ pub struct Declarator {
     pub dimensions: Vec<Dimension>,
 }
 
-/// A type by itself, or the type, written or left out, and the name of one declared thing.
+/// A type by itself (A.2.2.1).
 #[cycle(data_type)]
 #[derive(Drop)]
 pub enum TypeRef {
-    /// A type that begins with a keyword, by itself.
+    /// A type that begins with a keyword.
     Written {
         /// The type.
         data_type: DataType,
     },
-    /// A type by its name, by itself (6.18).
+    /// A type by its name (6.18).
     Named {
         /// The type.
         named: NamedType,
     },
-    /// A type that begins with a keyword, and a declared name: `int i`.
-    WrittenName {
+}
+
+impl TypeRef {
+    /// The number of its first token.
+    #[tactic(auto, using(crate::proofs::Firsts::first_of_named), unfolding(crate::specs::Types::data_type_tree))]
+    pub fn first_token(&self) -> u32
+        ensures { first_token_of (type_ref_tree self.now) ≡ Some result }
+    {
+        match self {
+            TypeRef::Written { data_type } => data_type.first_token(),
+            TypeRef::Named { named } => named.name.first_token(),
+        }
+    }
+}
+
+/// The type of a declared name, written or left out in part or in whole (A.2.2.1, data_type_or_implicit).
+#[derive(Drop)]
+pub enum DeclaredType {
+    /// A type: `int i`, `t [7:0] n`.
+    Explicit {
         /// The type.
-        data_type: DataType,
-        /// The declared name.
-        declarator: Declarator,
+        data_type: TypeRef,
     },
-    /// A sign and packed dimensions, and a declared name: `signed [7:0] n` (6.10 and 6.20.2).
-    SignedName {
-        /// The sign.
-        sign: Word<Sign>,
+    /// At most a sign and packed dimensions: `signed [7:0] n`, `[7:0] n`, `n` (6.10 and 6.20.2).
+    Implicit {
+        /// The sign, where one is written.
+        sign: Option<Mark<Sign>>,
         /// The packed dimensions, from left to right.
         dimensions: Vec<Dimension>,
-        /// The declared name.
-        declarator: Declarator,
     },
-    /// Packed dimensions, at least one, and a declared name: `[7:0] n` (6.10 and 6.20.2).
-    RangedName {
-        /// The leftmost packed dimension.
-        first: Dimension,
-        /// The others, from left to right.
-        others: Vec<Dimension>,
-        /// The declared name.
-        declarator: Declarator,
-    },
-    /// A type of a package, and a declared name: `p::t [7:0] n` (26.3).
-    ScopedName {
-        /// The package.
-        scope: u32,
-        /// `::`.
-        colons: u32,
-        /// The type's name.
-        name: u32,
-        /// The packed dimensions, from left to right.
-        dimensions: Vec<Dimension>,
-        /// The declared name.
-        declarator: Declarator,
-    },
-    /// A type by its name, and a declared name: `t [7:0] n`.
-    NamedName {
-        /// The type's name.
-        name: u32,
-        /// The packed dimensions, from left to right.
-        dimensions: Vec<Dimension>,
-        /// The declared name.
-        declarator: Declarator,
-    },
-    /// A declared name without a type: `n [3:0]`.
-    BareName {
-        /// The declared name.
-        declarator: Declarator,
-    },
+}
+
+/// A declared name with its type, written or left out: `int i [4]`, `n`.
+#[derive(Drop)]
+pub struct TypedName {
+    /// The type.
+    pub data_type: DeclaredType,
+    /// The name.
+    pub declarator: Declarator,
+}
+
+impl TypedName {
+    /// The number of the declared name.
+    pub fn name(&self) -> u32
+        ensures { result ≡ self.now.declarator.name }
+    {
+        self.declarator.name
+    }
 }

@@ -1,5 +1,6 @@
-use crate::data_type::{DataType, Declarator, Initializer, TypeRef};
-use crate::word::{Net, ParameterKeyword, Word};
+use crate::data_type::{Declarator, DeclaredType, Initializer, TypeRef};
+use crate::row::Row;
+use crate::word::{Mark, Net, PackageScope, ParameterKeyword};
 use sve_bytes::Dir;
 
 /// A declaration of parameters, of a type, of imports or of a modport.
@@ -31,22 +32,18 @@ pub enum Decl {
 #[derive(Drop)]
 pub struct Parameters {
     /// `parameter` or `localparam`.
-    pub keyword: Word<ParameterKeyword>,
-    /// Their type and the first name.
-    pub data_type: TypeRef,
-    /// The first one's value.
-    pub value: Initializer,
-    /// The others.
-    pub others: Vec<NextParameter>,
+    pub keyword: Mark<ParameterKeyword>,
+    /// Their type.
+    pub data_type: DeclaredType,
+    /// The names with their values.
+    pub assignments: Row<ParameterAssignment>,
     /// `;`.
     pub semicolon: u32,
 }
 
-/// A comma, and a further parameter of the same type with its value.
+/// A parameter's name and its value (A.2.4).
 #[derive(Drop)]
-pub struct NextParameter {
-    /// `,`.
-    pub comma: u32,
+pub struct ParameterAssignment {
     /// The name.
     pub declarator: Declarator,
     /// Its value.
@@ -71,10 +68,8 @@ pub struct Typedef {
 pub struct Import {
     /// `import`.
     pub keyword: u32,
-    /// The first item.
-    pub first: ImportItem,
-    /// The others.
-    pub others: Vec<NextImportItem>,
+    /// The items.
+    pub items: Row<ImportItem>,
     /// `;`.
     pub semicolon: u32,
 }
@@ -85,30 +80,17 @@ pub enum ImportItem {
     /// `p::n`.
     Name {
         /// The package.
-        scope: u32,
-        /// `::`.
-        colons: u32,
+        scope: PackageScope,
         /// The name.
         name: u32,
     },
     /// `p::*`.
     All {
         /// The package.
-        scope: u32,
-        /// `::`.
-        colons: u32,
+        scope: PackageScope,
         /// `*`.
         star: u32,
     },
-}
-
-/// A comma and a further item of an import.
-#[derive(Clone, Copy, Debug)]
-pub struct NextImportItem {
-    /// `,`.
-    pub comma: u32,
-    /// The item.
-    pub item: ImportItem,
 }
 
 /// A modport with its members: `m(input a, b, output c)` (25.5).
@@ -118,41 +100,24 @@ pub struct Modport {
     pub name: u32,
     /// `(`.
     pub opening: u32,
-    /// The first member's direction.
-    pub direction: Word<Dir>,
-    /// The first member.
-    pub first: u32,
-    /// The others.
-    pub others: Vec<NextModportMember>,
+    /// The members. The first has a direction.
+    pub members: Row<ModportMember>,
     /// `)`.
     pub closing: u32,
 }
 
-/// A comma and a further member of a modport.
+/// A member of a modport (25.5).
 #[derive(Clone, Copy, Debug)]
-pub struct NextModportMember {
-    /// `,`.
-    pub comma: u32,
+pub struct ModportMember {
     /// The direction; where none is written, that of the member before.
-    pub direction: Option<Word<Dir>>,
+    pub direction: Option<Mark<Dir>>,
     /// The member.
     pub name: u32,
 }
 
-/// The value of a declared name, where there is one, and further names of the same type: `= 1, b, c [3:0]` (A.2.3).
+/// A declared name and its value: `a [3:0] = 1` (A.2.3).
 #[derive(Drop)]
-pub struct DeclarationEnd {
-    /// The first name's value, where one is written.
-    pub value: Option<Initializer>,
-    /// The further names.
-    pub others: Vec<NextDeclarator>,
-}
-
-/// A comma, and a further declared name with its value.
-#[derive(Drop)]
-pub struct NextDeclarator {
-    /// `,`.
-    pub comma: u32,
+pub struct InitializedDeclarator {
     /// The name.
     pub declarator: Declarator,
     /// Its value, where one is written.
@@ -163,11 +128,11 @@ pub struct NextDeclarator {
 #[derive(Drop)]
 pub struct NetDeclaration {
     /// The net type.
-    pub net: Word<Net>,
-    /// The type, where one is written, and the first name.
-    pub data_type: TypeRef,
-    /// The first name's value and the further names.
-    pub end: DeclarationEnd,
+    pub net: Mark<Net>,
+    /// Their type.
+    pub data_type: DeclaredType,
+    /// The names with their values.
+    pub declarators: Row<InitializedDeclarator>,
     /// `;`.
     pub semicolon: u32,
 }
@@ -177,23 +142,21 @@ pub struct NetDeclaration {
 pub struct VariableDeclaration {
     /// `var`.
     pub keyword: u32,
-    /// The type, where one is written, and the first name.
-    pub data_type: TypeRef,
-    /// The first name's value and the further names.
-    pub end: DeclarationEnd,
+    /// Their type.
+    pub data_type: DeclaredType,
+    /// The names with their values.
+    pub declarators: Row<InitializedDeclarator>,
     /// `;`.
     pub semicolon: u32,
 }
 
-/// A declaration of variables that begins with its type's keyword: `int a = 1, b;` (6.8).
+/// A declaration of variables without `var`: `int a = 1, b;`, `p::t [3:0] a, b;` (6.8).
 #[derive(Drop)]
 pub struct DataDeclaration {
-    /// The type.
-    pub data_type: DataType,
-    /// The first name.
-    pub declarator: Declarator,
-    /// Its value and the further names.
-    pub end: DeclarationEnd,
+    /// Their type.
+    pub data_type: TypeRef,
+    /// The names with their values.
+    pub declarators: Row<InitializedDeclarator>,
     /// `;`.
     pub semicolon: u32,
 }

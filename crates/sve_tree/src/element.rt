@@ -1,17 +1,45 @@
+ghost use Rattle.std.specs.Prelude.{◌≡◌, Option, option_copied, option_map};
+ghost use Rattle.sve_tree.specs.Elements.{design_name, design_definition, element_name, element_definition};
+
 use crate::declaration::{Import, Parameters, Typedef};
 use crate::header::Header;
 use crate::item::Item;
 use crate::statement::Func;
-use crate::word::{Label, Lifetime, ModuleKeyword, Word};
+use crate::token_word::Word;
+use crate::word::{Label, Lifetime, Mark, ModuleKeyword};
 
 /// The tree of a chunk: items of the compilation unit's scope, and at most one module, interface or package behind them
-/// (IEEE 1800-2017, 3.12.1 and A.1.2).
+/// (IEEE 1800-2017, 3.12.1 and A.1.2); and the words of the chunk, whose numbers the tree holds.
 #[derive(Drop)]
 pub struct Element {
     /// The items of the compilation unit's scope.
     pub items: Vec<UnitItem>,
     /// The module, interface or package, where there is one.
     pub design: Option<Design>,
+    /// The chunk's tokens without their places, in order.
+    pub words: Vec<Word>,
+}
+
+impl Element {
+    /// The number of the name of the module, interface or package, where there is one.
+    pub fn name(&self) -> Option<u32>
+        ensures { result ≡ element_name self.now }
+    {
+        match &self.design {
+            Some(design) => Some(design.name()),
+            None => None,
+        }
+    }
+
+    /// The module or the interface, which has the header and the items, where the element has one.
+    pub fn definition(&self) -> Option<&Definition>
+        ensures { option_copied result ≡ element_definition self.now }
+    {
+        match &self.design {
+            Some(design) => design.definition(),
+            None => None,
+        }
+    }
 }
 
 /// An item of the compilation unit's scope or of a package (A.1.11).
@@ -49,13 +77,17 @@ pub enum UnitItem {
 pub enum Design {
     /// A module (clause 23).
     Module {
-        /// The module.
-        unit: Box<Module>,
+        /// `module` or `macromodule`.
+        keyword: Mark<ModuleKeyword>,
+        /// What follows.
+        definition: Box<Definition>,
     },
     /// An interface (clause 25).
     Interface {
-        /// The interface.
-        unit: Box<Interface>,
+        /// `interface`.
+        keyword: u32,
+        /// What follows.
+        definition: Box<Definition>,
     },
     /// A package (clause 26).
     Package {
@@ -64,33 +96,40 @@ pub enum Design {
     },
 }
 
-/// A module (23.2).
-#[derive(Drop)]
-pub struct Module {
-    /// `module` or `macromodule`.
-    pub keyword: Word<ModuleKeyword>,
-    /// Its header.
-    pub header: Header,
-    /// Its items.
-    pub items: Vec<Item>,
-    /// `endmodule`.
-    pub end: u32,
-    /// The label after `endmodule`, where one is written.
-    pub label: Option<Label>,
+impl Design {
+    /// The number of its name.
+    pub fn name(&self) -> u32
+        ensures { result ≡ design_name self.now }
+    {
+        match self {
+            Design::Module { definition, .. } => definition.header.name,
+            Design::Interface { definition, .. } => definition.header.name,
+            Design::Package { unit } => unit.name,
+        }
+    }
+
+    /// The module or the interface, where it is no package.
+    pub fn definition(&self) -> Option<&Definition>
+        ensures { option_copied result ≡ design_definition self.now }
+    {
+        match self {
+            Design::Module { definition, .. } => Some(definition),
+            Design::Interface { definition, .. } => Some(definition),
+            Design::Package { .. } => None,
+        }
+    }
 }
 
-/// An interface (25.3).
+/// A module or an interface behind its keyword (23.2 and 25.3).
 #[derive(Drop)]
-pub struct Interface {
-    /// `interface`.
-    pub keyword: u32,
+pub struct Definition {
     /// Its header.
     pub header: Header,
     /// Its items.
     pub items: Vec<Item>,
-    /// `endinterface`.
+    /// `endmodule` or `endinterface`.
     pub end: u32,
-    /// The label after `endinterface`, where one is written.
+    /// The label after the end, where one is written.
     pub label: Option<Label>,
 }
 
@@ -100,7 +139,7 @@ pub struct Package {
     /// `package`.
     pub keyword: u32,
     /// The lifetime of the variables in its functions, where one is written.
-    pub lifetime: Option<Word<Lifetime>>,
+    pub lifetime: Option<Mark<Lifetime>>,
     /// Its name.
     pub name: u32,
     /// `;`.

@@ -1,5 +1,10 @@
+ghost use Rattle.std.specs.Prelude.{◌≡◌, Some};
+ghost use Rattle.sve_tree.specs.Shape.{first_token_of};
+ghost use Rattle.sve_tree.specs.Expressions.{tree_at};
+
+use crate::row::Row;
 use crate::word::{
-    BinaryOperator, ImplicationOperator, IntegerKeyword, ScopedName, Sign, UnaryOperator, Word,
+    BinaryOperator, ImplicationOperator, IntegerKeyword, Mark, ScopedName, Sign, UnaryOperator,
 };
 
 /// An expression (IEEE 1800-2017, clause 11, A.8.3 and A.8.4). Each number of a token is that within its chunk, from 0.
@@ -65,10 +70,8 @@ pub enum Expr {
         count: Box<Expr>,
         /// The inner `{`.
         inner_opening: u32,
-        /// The first of what is repeated.
-        first: Box<Expr>,
-        /// The others.
-        others: Vec<NextExpression>,
+        /// What is repeated, the most significant first.
+        operands: Row<Expr>,
         /// The inner `}`.
         inner_closing: u32,
         /// `}`.
@@ -80,10 +83,8 @@ pub enum Expr {
     Concatenation {
         /// `{`.
         opening: u32,
-        /// The first operand, the most significant.
-        first: Box<Expr>,
-        /// The others.
-        others: Vec<NextExpression>,
+        /// The operands, the most significant first.
+        operands: Row<Expr>,
         /// `}`.
         closing: u32,
         /// Selects of its bits.
@@ -92,25 +93,25 @@ pub enum Expr {
     /// A cast to a sign: `signed'(e)` (6.24.1).
     SignCast {
         /// The sign.
-        sign: Word<Sign>,
+        sign: Mark<Sign>,
         /// What is cast.
         cast: Cast,
     },
     /// An integer type in the place of an expression: `logic [7:0]` (6.11), as an argument of `$bits` (20.6.2).
     Type {
         /// The type's keyword.
-        keyword: Word<IntegerKeyword>,
+        keyword: Mark<IntegerKeyword>,
         /// The sign, where one is written.
-        sign: Option<Word<Sign>>,
+        sign: Option<Mark<Sign>>,
         /// The packed dimensions, from left to right.
         dimensions: Vec<Dimension>,
     },
     /// A cast to an integer type: `int'(e)` (6.24.1).
     TypeCast {
         /// The type's keyword.
-        keyword: Word<IntegerKeyword>,
+        keyword: Mark<IntegerKeyword>,
         /// The sign, where one is written.
-        sign: Option<Word<Sign>>,
+        sign: Option<Mark<Sign>>,
         /// The packed dimensions, from left to right.
         dimensions: Vec<Dimension>,
         /// What is cast.
@@ -142,9 +143,7 @@ pub enum Expr {
     /// An operator and its operand (11.4).
     Unary {
         /// The operator.
-        operator: UnaryOperator,
-        /// The operator's token.
-        at: u32,
+        operator: Mark<UnaryOperator>,
         /// The operand.
         operand: Box<Expr>,
     },
@@ -154,7 +153,7 @@ pub enum Expr {
         /// The first operand.
         first: Box<Expr>,
         /// The operations, at least one, all of one level, from left to right.
-        rest: Vec<Operation>,
+        operations: Vec<Operation>,
     },
     /// One of two values by a condition: `c ? a : b` (11.4.11).
     Conditional {
@@ -174,12 +173,36 @@ pub enum Expr {
         /// The left operand.
         left: Box<Expr>,
         /// The operator.
-        operator: ImplicationOperator,
-        /// The operator's token.
-        at: u32,
+        operator: Mark<ImplicationOperator>,
         /// The right operand.
         right: Box<Expr>,
     },
+}
+
+impl Expr {
+    /// The number of its first token.
+    #[tactic(auto, using(crate::proofs::Firsts::first_of_name), unfolding(crate::specs::Expressions::own, crate::specs::Expressions::raise))]
+    pub fn first_token(&self) -> u32
+        ensures { first_token_of (tree_at 13 self.now) ≡ Some result }
+    {
+        match self {
+            Expr::Decimal { token } | Expr::Based { token } => *token,
+            Expr::Unbased { token } | Expr::Text { token } => *token,
+            Expr::Sized { size, .. } | Expr::SizeCast { size, .. } => *size,
+            Expr::Parenthesized { inner } => inner.opening,
+            Expr::ParenthesizedCast { size, .. } => size.opening,
+            Expr::Pattern { pattern } => pattern.opening,
+            Expr::Replication { opening, .. } | Expr::Concatenation { opening, .. } => *opening,
+            Expr::SignCast { sign, .. } => sign.token,
+            Expr::Type { keyword, .. } | Expr::TypeCast { keyword, .. } => keyword.token,
+            Expr::SystemName { name, .. } | Expr::SystemCall { name, .. } => *name,
+            Expr::Name { name, .. } => name.first_token(),
+            Expr::Unary { operator, .. } => operator.token,
+            Expr::Operations { first, .. } => first.first_token(),
+            Expr::Conditional { condition, .. } => condition.first_token(),
+            Expr::Implication { left, .. } => left.first_token(),
+        }
+    }
 }
 
 /// An operation of a chain, on what stands before it.
@@ -189,9 +212,7 @@ pub enum Operation {
     /// An operator and its right operand (11.4).
     Binary {
         /// The operator.
-        operator: BinaryOperator,
-        /// The operator's token.
-        at: u32,
+        operator: Mark<BinaryOperator>,
         /// The right operand.
         right: Expr,
     },
@@ -201,10 +222,8 @@ pub enum Operation {
         keyword: u32,
         /// `{`.
         opening: u32,
-        /// The first value or range.
-        first: ValueRange,
-        /// The others.
-        others: Vec<NextValueRange>,
+        /// The values and ranges.
+        ranges: Row<ValueRange>,
         /// `}`.
         closing: u32,
     },
@@ -230,16 +249,6 @@ pub struct Cast {
     pub apostrophe: u32,
     /// The value.
     pub value: Parenthesized,
-}
-
-/// A comma and an expression.
-#[cycle(expression)]
-#[derive(Drop)]
-pub struct NextExpression {
-    /// `,`.
-    pub comma: u32,
-    /// The expression.
-    pub value: Expr,
 }
 
 /// A dimension of a type or of a name (7.4).
@@ -370,10 +379,8 @@ pub enum Postfix {
 pub struct ArgumentList {
     /// `(`.
     pub opening: u32,
-    /// The first argument. The list `()` has one, which is empty.
-    pub first: Arg,
-    /// The others.
-    pub others: Vec<NextArgument>,
+    /// The arguments. The list `()` has one, which is empty.
+    pub arguments: Row<Arg>,
     /// `)`.
     pub closing: u32,
 }
@@ -427,16 +434,6 @@ pub enum Arg {
     Empty,
 }
 
-/// A comma and an argument.
-#[cycle(expression)]
-#[derive(Drop)]
-pub struct NextArgument {
-    /// `,`.
-    pub comma: u32,
-    /// The argument.
-    pub argument: Arg,
-}
-
 /// A value, or all values between two bounds (11.4.13).
 #[cycle(expression)]
 #[derive(Drop)]
@@ -461,26 +458,14 @@ pub enum ValueRange {
     },
 }
 
-/// A comma and a value or a range.
-#[cycle(expression)]
-#[derive(Drop)]
-pub struct NextValueRange {
-    /// `,`.
-    pub comma: u32,
-    /// The value or the range.
-    pub range: ValueRange,
-}
-
 /// An assignment pattern (10.9).
 #[cycle(expression)]
 #[derive(Drop)]
 pub struct Pattern {
     /// `'{`.
     pub opening: u32,
-    /// The first item.
-    pub first: PatternItem,
-    /// The others.
-    pub others: Vec<NextPatternItem>,
+    /// The items.
+    pub items: Row<PatternItem>,
     /// `}`.
     pub closing: u32,
 }
@@ -518,21 +503,9 @@ pub enum PatternItem {
         count: Box<Expr>,
         /// `{`.
         opening: u32,
-        /// The first value.
-        first: Box<Expr>,
-        /// The others.
-        others: Vec<NextExpression>,
+        /// The values.
+        values: Row<Expr>,
         /// `}`.
         closing: u32,
     },
-}
-
-/// A comma and an item of an assignment pattern.
-#[cycle(expression)]
-#[derive(Drop)]
-pub struct NextPatternItem {
-    /// `,`.
-    pub comma: u32,
-    /// The item.
-    pub item: PatternItem,
 }

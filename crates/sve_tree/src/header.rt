@@ -1,14 +1,16 @@
-use crate::data_type::{DataType, Declarator, Initializer, TypeRef};
+ghost use Rattle.std.specs.Prelude.{◌≡◌};
+
+use crate::data_type::{Declarator, DeclaredType, Initializer, TypedName};
 use crate::declaration::Import;
-use crate::expression::Dimension;
-use crate::word::{Lifetime, Net, ParameterKeyword, Sign, Word};
+use crate::row::Row;
+use crate::word::{Lifetime, Mark, Net, ParameterKeyword};
 use sve_bytes::Dir;
 
 /// The header of a module or an interface, from behind its keyword to the semicolon (IEEE 1800-2017, 23.2).
 #[derive(Drop)]
 pub struct Header {
     /// The lifetime of the variables in it, where one is written.
-    pub lifetime: Option<Word<Lifetime>>,
+    pub lifetime: Option<Mark<Lifetime>>,
     /// The name.
     pub name: u32,
     /// Imports into the header and what follows.
@@ -28,39 +30,30 @@ pub struct ParameterPorts {
     pub hash: u32,
     /// `(`.
     pub opening: u32,
-    /// The parameters, where there are any.
-    pub list: Option<ParameterPortList>,
+    /// The parameters. `#()` has none.
+    pub parameters: Row<ParameterPort>,
     /// `)`.
     pub closing: u32,
-}
-
-/// The parameters of a header.
-#[derive(Drop)]
-pub struct ParameterPortList {
-    /// The first.
-    pub first: ParameterPort,
-    /// The others.
-    pub others: Vec<NextParameterPort>,
 }
 
 /// A parameter of a header (6.20.1).
 #[derive(Drop)]
 pub struct ParameterPort {
     /// `parameter` or `localparam`, where one is written.
-    pub keyword: Option<Word<ParameterKeyword>>,
-    /// The type, where one is written, and the name.
-    pub data_type: TypeRef,
+    pub keyword: Option<Mark<ParameterKeyword>>,
+    /// The name with its type.
+    pub parameter: TypedName,
     /// The default value, where there is one.
     pub value: Option<Initializer>,
 }
 
-/// A comma and a further parameter.
-#[derive(Drop)]
-pub struct NextParameterPort {
-    /// `,`.
-    pub comma: u32,
-    /// The parameter.
-    pub port: ParameterPort,
+impl ParameterPort {
+    /// The number of the parameter's name.
+    pub fn name(&self) -> u32
+        ensures { result ≡ self.now.parameter.declarator.name }
+    {
+        self.parameter.declarator.name
+    }
 }
 
 /// The ports of a header in their parentheses (23.2.2).
@@ -68,39 +61,32 @@ pub struct NextParameterPort {
 pub struct Ports {
     /// `(`.
     pub opening: u32,
-    /// The ports, where there are any.
-    pub list: Option<PortList>,
+    /// The ports. `()` has none.
+    pub ports: Row<Port>,
     /// `)`.
     pub closing: u32,
-}
-
-/// The ports of a header.
-#[derive(Drop)]
-pub struct PortList {
-    /// The first.
-    pub first: Port,
-    /// The others.
-    pub others: Vec<NextPort>,
 }
 
 /// A port of a header (23.2.2.2).
 #[derive(Drop)]
 pub struct Port {
     /// The direction, where one is written.
-    pub direction: Option<Word<Dir>>,
+    pub direction: Option<Mark<Dir>>,
     /// `var` or the net type, where one is written.
     pub kind: Option<PortKind>,
-    /// The type, where one is written, or the interface; and the name.
+    /// The type, written or left out, or the interface.
     pub port_type: PortType,
+    /// The name.
+    pub declarator: Declarator,
 }
 
-/// A comma and a further port.
-#[derive(Drop)]
-pub struct NextPort {
-    /// `,`.
-    pub comma: u32,
-    /// The port.
-    pub port: Port,
+impl Port {
+    /// The number of the port's name.
+    pub fn name(&self) -> u32
+        ensures { result ≡ self.now.declarator.name }
+    {
+        self.declarator.name
+    }
 }
 
 /// Whether a port is a variable or a net (23.2.2.3).
@@ -114,74 +100,25 @@ pub enum PortKind {
     /// A net.
     Net {
         /// The net type.
-        net: Word<Net>,
+        net: Mark<Net>,
     },
 }
 
-/// The type of a port, written or left out, or its interface, and its name (23.2.2.2 and 25.3).
+/// The type of a port, written or left out, or its interface (23.2.2.2 and 25.3).
 #[derive(Drop)]
 pub enum PortType {
-    /// A type that begins with a keyword: `int i`.
-    Written {
+    /// A type, or an interface by its name alone, which looks like one.
+    Data {
         /// The type.
-        data_type: DataType,
-        /// The port's name.
-        declarator: Declarator,
-    },
-    /// A sign and packed dimensions: `signed [7:0] n`.
-    Signed {
-        /// The sign.
-        sign: Word<Sign>,
-        /// The packed dimensions, from left to right.
-        dimensions: Vec<Dimension>,
-        /// The port's name.
-        declarator: Declarator,
-    },
-    /// Packed dimensions, at least one: `[7:0] n`.
-    Ranged {
-        /// The leftmost packed dimension.
-        first: Dimension,
-        /// The others, from left to right.
-        others: Vec<Dimension>,
-        /// The port's name.
-        declarator: Declarator,
-    },
-    /// A type of a package: `p::t [7:0] n`.
-    Scoped {
-        /// The package.
-        scope: u32,
-        /// `::`.
-        colons: u32,
-        /// The type's name.
-        name: u32,
-        /// The packed dimensions, from left to right.
-        dimensions: Vec<Dimension>,
-        /// The port's name.
-        declarator: Declarator,
+        data_type: DeclaredType,
     },
     /// An interface with a modport: `i.m n`.
-    Modport {
+    Interface {
         /// The interface.
         interface: u32,
         /// `.`.
         dot: u32,
         /// The modport.
         modport: u32,
-        /// The port's name.
-        declarator: Declarator,
-    },
-    /// A type or an interface by its name: `t n`.
-    Named {
-        /// The name of the type or of the interface.
-        name: u32,
-        /// The packed dimensions, from left to right.
-        dimensions: Vec<Dimension>,
-        /// The port's name.
-        declarator: Declarator,
-    },
-    /// A name alone: `n [3:0]`.
-    Bare {
-        /// The port's name.
-        declarator: Declarator,
     },
 }

@@ -1,13 +1,14 @@
-use crate::data_type::Declarator;
+ghost use Rattle.std.specs.Prelude.{◌≡◌, Some};
+ghost use Rattle.sve_tree.specs.Shape.{first_token_of};
+ghost use Rattle.sve_tree.specs.Items.{item_tree};
+
 use crate::declaration::{
-    DataDeclaration, DeclarationEnd, Import, Modport, NetDeclaration, Parameters, Typedef,
-    VariableDeclaration,
+    DataDeclaration, Import, Modport, NetDeclaration, Parameters, Typedef, VariableDeclaration,
 };
-use crate::expression::{ArgumentList, Dimension, Expr, NextExpression, Parenthesized, Select};
+use crate::expression::{ArgumentList, Expr, Parenthesized, Select};
+use crate::row::Row;
 use crate::statement::{Change, Func, LeftSide, Stmt, SystemTask};
-use crate::word::{
-    ClockedKeyword, Edge, EventSeparator, Label, NextName, PlainKeyword, StepOperator, Word,
-};
+use crate::word::{ClockedKeyword, Edge, EventSeparator, Label, Mark, PlainKeyword, StepOperator};
 
 /// An item of a module or an interface, or of a generate block (IEEE 1800-2017, A.1.4).
 #[cycle(item)]
@@ -53,7 +54,7 @@ pub enum Item {
         /// The declaration.
         declaration: Box<VariableDeclaration>,
     },
-    /// Variables whose type begins with a keyword (6.8).
+    /// Variables without `var` (6.8).
     Data {
         /// The declaration.
         declaration: Box<DataDeclaration>,
@@ -103,75 +104,41 @@ pub enum Item {
         /// The task.
         task: Box<SystemTask>,
     },
-    /// Instances with overrides: `m #(8) u(a), v(b);` (23.3.2).
-    OverriddenInstances {
-        /// The module or the interface.
-        definition: u32,
-        /// `#`.
-        hash: u32,
-        /// The overrides.
-        overrides: ArgumentList,
-        /// The first instance.
-        first: Instance,
-        /// The others.
-        others: Vec<NextInstance>,
-        /// `;`.
-        semicolon: u32,
-    },
-    /// Variables of a type of a package: `p::t [3:0] a, b;` (26.3).
-    ScopedData {
-        /// The package.
-        scope: u32,
-        /// `::`.
-        colons: u32,
-        /// The type's name.
-        name: u32,
-        /// The packed dimensions, from left to right.
-        dimensions: Vec<Dimension>,
-        /// The first declared name.
-        declarator: Declarator,
-        /// Its value and the further names.
-        end: DeclarationEnd,
-        /// `;`.
-        semicolon: u32,
-    },
-    /// Variables of a type by its name, with packed dimensions: `t [3:0] a, b;` (6.18).
-    RangedData {
-        /// The type's name.
-        name: u32,
-        /// The leftmost packed dimension.
-        first: Dimension,
-        /// The others, from left to right.
-        others: Vec<Dimension>,
-        /// The first declared name.
-        declarator: Declarator,
-        /// Its value and the further names.
-        end: DeclarationEnd,
-        /// `;`.
-        semicolon: u32,
-    },
-    /// Instances without overrides: `m u(a), v(b);` (23.3.2).
+    /// Instances of a module or of an interface (23.3.2 and 25.3).
     Instances {
-        /// The module or the interface.
-        definition: u32,
-        /// The first instance.
-        first: Instance,
-        /// The others.
-        others: Vec<NextInstance>,
-        /// `;`.
-        semicolon: u32,
+        /// The instances.
+        instantiation: Box<Instantiation>,
     },
-    /// Variables of a type by its name: `t a = 1, b;` (6.18).
-    NamedData {
-        /// The type's name.
-        name: u32,
-        /// The first declared name.
-        declarator: Declarator,
-        /// Its value and the further names.
-        end: DeclarationEnd,
-        /// `;`.
-        semicolon: u32,
-    },
+}
+
+impl Item {
+    /// The number of its first token.
+    #[tactic(auto, using(crate::proofs::Firsts::first_of_data, crate::proofs::Firsts::first_of_if), unfolding(crate::specs::Items::item_tree))]
+    pub fn first_token(&self) -> u32
+        ensures { first_token_of (item_tree self.now) ≡ Some result }
+    {
+        match self {
+            Item::Empty { semicolon } => *semicolon,
+            Item::Import { declaration } => declaration.keyword,
+            Item::Parameters { declaration } => declaration.keyword.token,
+            Item::Typedef { declaration } => declaration.keyword,
+            Item::Function { function } => function.keyword,
+            Item::Genvars { declaration } => declaration.keyword,
+            Item::Net { declaration } => declaration.net.token,
+            Item::Variable { declaration } => declaration.keyword,
+            Item::Data { declaration } => declaration.data_type.first_token(),
+            Item::Assign { assignments } => assignments.keyword,
+            Item::Clocked { procedure } => procedure.keyword.token,
+            Item::Plain { procedure } => procedure.keyword.token,
+            Item::Region { region } => region.keyword,
+            Item::LoopGenerate { construct } => construct.keyword,
+            Item::IfGenerate { construct } => construct.keyword,
+            Item::CaseGenerate { construct } => construct.keyword,
+            Item::Modports { declaration } => declaration.keyword,
+            Item::SystemTask { task } => task.name,
+            Item::Instances { instantiation } => instantiation.definition,
+        }
+    }
 }
 
 /// A declaration of genvars: `genvar i, j;` (27.4).
@@ -179,10 +146,8 @@ pub enum Item {
 pub struct GenvarDeclaration {
     /// `genvar`.
     pub keyword: u32,
-    /// The first name.
-    pub first: u32,
-    /// The others.
-    pub others: Vec<NextName>,
+    /// The names.
+    pub names: Row<u32>,
     /// `;`.
     pub semicolon: u32,
 }
@@ -192,10 +157,8 @@ pub struct GenvarDeclaration {
 pub struct ContinuousAssign {
     /// `assign`.
     pub keyword: u32,
-    /// The first assignment.
-    pub first: NetAssignment,
-    /// The others.
-    pub others: Vec<NextNetAssignment>,
+    /// The assignments.
+    pub assignments: Row<NetAssignment>,
     /// `;`.
     pub semicolon: u32,
 }
@@ -211,20 +174,11 @@ pub struct NetAssignment {
     pub value: Box<Expr>,
 }
 
-/// A comma and an assignment.
-#[derive(Drop)]
-pub struct NextNetAssignment {
-    /// `,`.
-    pub comma: u32,
-    /// The assignment.
-    pub assignment: NetAssignment,
-}
-
 /// A procedure that begins with an event control: `always_ff @(posedge clk) q <= d;` (9.2.2).
 #[derive(Drop)]
 pub struct ClockedProcedure {
     /// `always` or `always_ff`.
-    pub keyword: Word<ClockedKeyword>,
+    pub keyword: Mark<ClockedKeyword>,
     /// `@`.
     pub at: u32,
     /// What is waited for.
@@ -237,7 +191,7 @@ pub struct ClockedProcedure {
 #[derive(Drop)]
 pub struct PlainProcedure {
     /// `always_comb`, `always_latch` or `initial`.
-    pub keyword: Word<PlainKeyword>,
+    pub keyword: Mark<PlainKeyword>,
     /// The statement.
     pub statement: Box<Stmt>,
 }
@@ -263,10 +217,8 @@ pub enum EventControl {
     Events {
         /// `(`.
         opening: u32,
-        /// The first event.
-        first: Event,
-        /// The others.
-        others: Vec<NextEvent>,
+        /// The events.
+        events: Row<Event, Mark<EventSeparator>>,
         /// `)`.
         closing: u32,
     },
@@ -283,18 +235,9 @@ pub enum EventControl {
 #[derive(Drop)]
 pub struct Event {
     /// The edge, where one is written.
-    pub edge: Option<Word<Edge>>,
+    pub edge: Option<Mark<Edge>>,
     /// The value.
     pub value: Box<Expr>,
-}
-
-/// `or` or a comma, and an event.
-#[derive(Drop)]
-pub struct NextEvent {
-    /// `or` or `,`.
-    pub separator: Word<EventSeparator>,
-    /// The event.
-    pub event: Event,
 }
 
 /// Items from `generate` to `endgenerate` (27.3).
@@ -315,22 +258,30 @@ pub struct GenerateRegion {
 pub enum GenerateBlock {
     /// `begin` to `end`.
     Block {
-        /// `begin`.
-        begin: u32,
-        /// Its label, where one is written.
-        label: Option<Label>,
-        /// The items.
-        items: Vec<Item>,
-        /// `end`.
-        end: u32,
-        /// The label after `end`, where one is written.
-        end_label: Option<Label>,
+        /// The items in their keywords.
+        block: Box<GenerateBody>,
     },
     /// One item.
     Item {
         /// The item.
         item: Box<Item>,
     },
+}
+
+/// The items of a generate block from `begin` to `end` (27.3).
+#[cycle(item)]
+#[derive(Drop)]
+pub struct GenerateBody {
+    /// `begin`.
+    pub begin: u32,
+    /// Its label, where one is written.
+    pub label: Option<Label>,
+    /// The items.
+    pub items: Vec<Item>,
+    /// `end`.
+    pub end: u32,
+    /// The label after `end`, where one is written.
+    pub end_label: Option<Label>,
 }
 
 /// A generate loop: `for (genvar i = 0; i < 4; i++)` (27.4).
@@ -369,7 +320,7 @@ pub enum GenvarStep {
     /// One added or taken off, with the operator in front: `++i`.
     Before {
         /// The operator.
-        operator: Word<StepOperator>,
+        operator: Mark<StepOperator>,
         /// The name.
         name: u32,
     },
@@ -414,10 +365,8 @@ pub struct CaseGenerate {
     pub keyword: u32,
     /// The selector.
     pub selector: Parenthesized,
-    /// The first item.
-    pub first: CaseGenerateItem,
-    /// The others.
-    pub others: Vec<CaseGenerateItem>,
+    /// The items, at least one of them.
+    pub items: Vec<CaseGenerateItem>,
     /// `endcase`.
     pub end: u32,
 }
@@ -437,10 +386,8 @@ pub enum CaseGenerateItem {
     },
     /// The block that is taken where one of the labels fits.
     Labels {
-        /// The first label.
-        first: Box<Expr>,
-        /// The others.
-        others: Vec<NextExpression>,
+        /// The labels.
+        labels: Row<Expr>,
         /// `:`.
         colon: u32,
         /// The block.
@@ -453,21 +400,32 @@ pub enum CaseGenerateItem {
 pub struct ModportDeclaration {
     /// `modport`.
     pub keyword: u32,
-    /// The first.
-    pub first: Modport,
-    /// The others.
-    pub others: Vec<NextModport>,
+    /// The modports.
+    pub modports: Row<Modport>,
     /// `;`.
     pub semicolon: u32,
 }
 
-/// A comma and a modport.
+/// Instances of one module or interface: `m #(8) u(a), v(b);` (23.3.2).
 #[derive(Drop)]
-pub struct NextModport {
-    /// `,`.
-    pub comma: u32,
-    /// The modport.
-    pub modport: Modport,
+pub struct Instantiation {
+    /// The name of the module or of the interface.
+    pub definition: u32,
+    /// The overrides of its parameters, where they are written.
+    pub overrides: Option<Overrides>,
+    /// The instances.
+    pub instances: Row<Instance>,
+    /// `;`.
+    pub semicolon: u32,
+}
+
+/// Overrides of parameters: `#(8)` (23.10.2).
+#[derive(Drop)]
+pub struct Overrides {
+    /// `#`.
+    pub hash: u32,
+    /// The overrides.
+    pub arguments: ArgumentList,
 }
 
 /// The name of an instance and its connections (23.3.2).
@@ -477,13 +435,4 @@ pub struct Instance {
     pub name: u32,
     /// The connections.
     pub connections: ArgumentList,
-}
-
-/// A comma and an instance.
-#[derive(Drop)]
-pub struct NextInstance {
-    /// `,`.
-    pub comma: u32,
-    /// The instance.
-    pub instance: Instance,
 }

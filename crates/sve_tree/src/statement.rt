@@ -1,11 +1,16 @@
-use crate::data_type::{DataType, Declarator, Initializer, NamedType, TypeRef};
+ghost use Rattle.std.specs.Prelude.{◌≡◌, Some};
+ghost use Rattle.sve_tree.specs.Shape.{first_token_of};
+ghost use Rattle.sve_tree.specs.Statements.{left_side_tree, result_name};
+
+use crate::data_type::{DataType, Declarator, Initializer, TypedName};
 use crate::declaration::{
-    DataDeclaration, DeclarationEnd, Parameters, Typedef, VariableDeclaration,
+    DataDeclaration, InitializedDeclarator, Parameters, Typedef, VariableDeclaration,
 };
-use crate::expression::{ArgumentList, Cast, Expr, NextExpression, Parenthesized, Select};
+use crate::expression::{ArgumentList, Cast, Expr, Parenthesized, Select};
+use crate::row::Row;
 use crate::word::{
-    AssignmentOperator, CaseKeyword, Label, Lifetime, LoopKeyword, NextName, ScopedName,
-    StepOperator, Uniqueness, Word,
+    AssignmentOperator, CaseKeyword, Label, Lifetime, LoopKeyword, Mark, ScopedName, StepOperator,
+    Uniqueness,
 };
 use sve_bytes::Dir;
 
@@ -27,28 +32,29 @@ pub enum LeftSide {
     },
 }
 
+impl LeftSide {
+    /// The number of its first token.
+    #[tactic(auto, unfolding(crate::specs::Statements::left_side_tree))]
+    pub fn first_token(&self) -> u32
+        ensures { first_token_of (left_side_tree self.now) ≡ Some result }
+    {
+        match self {
+            LeftSide::Name { name, .. } => *name,
+            LeftSide::Concatenation { concatenation } => concatenation.opening,
+        }
+    }
+}
+
 /// Left sides in braces, the most significant first (11.4.12).
 #[cycle(left_side)]
 #[derive(Drop)]
 pub struct LeftConcatenation {
     /// `{`.
     pub opening: u32,
-    /// The first.
-    pub first: Box<LeftSide>,
-    /// The others.
-    pub others: Vec<NextLeftSide>,
+    /// The left sides.
+    pub sides: Row<LeftSide>,
     /// `}`.
     pub closing: u32,
-}
-
-/// A comma and a left side.
-#[cycle(left_side)]
-#[derive(Drop)]
-pub struct NextLeftSide {
-    /// `,`.
-    pub comma: u32,
-    /// The left side.
-    pub side: LeftSide,
 }
 
 /// How a name is changed: by a value or by one (10.4 and 11.4.2).
@@ -57,14 +63,14 @@ pub enum Change {
     /// A value is assigned.
     Assign {
         /// The operator.
-        operator: Word<AssignmentOperator>,
+        operator: Mark<AssignmentOperator>,
         /// The value.
         value: Box<Expr>,
     },
     /// One is added or taken off.
     Step {
         /// The operator.
-        operator: Word<StepOperator>,
+        operator: Mark<StepOperator>,
     },
 }
 
@@ -74,14 +80,14 @@ pub enum StatementTail {
     /// A value is assigned to it (10.4 and 11.4.1).
     Assign {
         /// The operator.
-        operator: Word<AssignmentOperator>,
+        operator: Mark<AssignmentOperator>,
         /// The value.
         value: Box<Expr>,
     },
     /// One is added to it or taken off (11.4.2).
     Step {
         /// The operator.
-        operator: Word<StepOperator>,
+        operator: Mark<StepOperator>,
     },
     /// It is called (13.5).
     Call {
@@ -107,14 +113,14 @@ pub enum Stmt {
     /// `if` (12.4).
     If {
         /// `unique`, `unique0` or `priority`, where one is written.
-        uniqueness: Option<Word<Uniqueness>>,
+        uniqueness: Option<Mark<Uniqueness>>,
         /// The statement.
         statement: Box<IfStatement>,
     },
     /// `case` (12.5).
     Case {
         /// `unique`, `unique0` or `priority`, where one is written.
-        uniqueness: Option<Word<Uniqueness>>,
+        uniqueness: Option<Mark<Uniqueness>>,
         /// The statement.
         statement: Box<CaseStatement>,
     },
@@ -207,11 +213,9 @@ pub enum BlockItem {
     /// A declaration with a lifetime: `automatic int i;` (6.21).
     Local {
         /// The lifetime.
-        lifetime: Word<Lifetime>,
+        lifetime: Mark<Lifetime>,
         /// The variables.
-        declaration: LocalDeclaration,
-        /// `;`.
-        semicolon: u32,
+        declaration: Box<DataDeclaration>,
     },
     /// A declaration with `var` (6.8).
     Variable {
@@ -233,19 +237,10 @@ pub enum BlockItem {
         /// The declaration.
         declaration: Box<Typedef>,
     },
-    /// A declaration that begins with a type's name: `t [3:0] a = 1, b;` (6.8). Of the selects behind the name, each has to be
-    /// a dimension.
+    /// A declaration that begins with a type's name (6.8).
     NamedData {
-        /// The type's name.
-        name: ScopedName,
-        /// What stands between the type's name and the first declared name.
-        selects: Vec<Select>,
-        /// The first declared name.
-        declarator: Declarator,
-        /// Its value and the further names.
-        end: DeclarationEnd,
-        /// `;`.
-        semicolon: u32,
+        /// The declaration.
+        declaration: Box<NamedDeclaration>,
     },
     /// A statement that begins with a name.
     Name {
@@ -259,27 +254,18 @@ pub enum BlockItem {
     },
 }
 
-/// Variables behind a lifetime, with their type (6.21).
+/// A declaration of a block that begins with a type's name: `t [3:0] a = 1, b;` (6.8). Of the selects behind the name, each has
+/// to be a dimension.
 #[derive(Drop)]
-pub enum LocalDeclaration {
-    /// A type that begins with a keyword.
-    Written {
-        /// The type.
-        data_type: DataType,
-        /// The first name.
-        declarator: Declarator,
-        /// Its value and the further names.
-        end: DeclarationEnd,
-    },
-    /// A type by its name.
-    Named {
-        /// The type.
-        named: NamedType,
-        /// The first name.
-        declarator: Declarator,
-        /// Its value and the further names.
-        end: DeclarationEnd,
-    },
+pub struct NamedDeclaration {
+    /// The type's name.
+    pub name: ScopedName,
+    /// What stands between the type's name and the first declared name.
+    pub selects: Vec<Select>,
+    /// The names with their values.
+    pub declarators: Row<InitializedDeclarator>,
+    /// `;`.
+    pub semicolon: u32,
 }
 
 /// `if` with its statement, and `else` (12.4).
@@ -311,13 +297,11 @@ pub struct ElseBranch {
 #[derive(Drop)]
 pub struct CaseStatement {
     /// `case`, `casez` or `casex`.
-    pub keyword: Word<CaseKeyword>,
+    pub keyword: Mark<CaseKeyword>,
     /// The selector.
     pub selector: Parenthesized,
-    /// The first item.
-    pub first: CaseItem,
-    /// The others.
-    pub others: Vec<CaseItem>,
+    /// The items, at least one of them.
+    pub items: Vec<CaseItem>,
     /// `endcase`.
     pub end: u32,
 }
@@ -337,10 +321,8 @@ pub enum CaseItem {
     },
     /// What is done where one of the labels fits.
     Labels {
-        /// The first label.
-        first: Box<Expr>,
-        /// The others.
-        others: Vec<NextExpression>,
+        /// The labels.
+        labels: Row<Expr>,
         /// `:`.
         colon: u32,
         /// The statement.
@@ -364,8 +346,8 @@ pub struct ForStatement {
     pub condition: Option<Box<Expr>>,
     /// The second `;`.
     pub second_semicolon: u32,
-    /// What is done after each turn, where that is written.
-    pub steps: Option<ForSteps>,
+    /// What is done after each turn. It may be nothing.
+    pub steps: Row<ForStep>,
     /// `)`.
     pub closing: u32,
     /// The statement.
@@ -377,14 +359,8 @@ pub struct ForStatement {
 pub enum ForInitialization {
     /// It declares variables, the first with a type that begins with a keyword: `int i = 0, j = 1`.
     Declared {
-        /// The type.
-        data_type: DataType,
-        /// The first name.
-        declarator: Declarator,
-        /// Its value.
-        value: Initializer,
-        /// The others.
-        others: Vec<NextForVariable>,
+        /// The variables. The first has a type.
+        variables: Row<ForVariable>,
     },
     /// It assigns to a name: `i = 0`.
     Assigned {
@@ -393,7 +369,7 @@ pub enum ForInitialization {
         /// Its selects.
         selects: Vec<Select>,
         /// The operator.
-        operator: Word<AssignmentOperator>,
+        operator: Mark<AssignmentOperator>,
         /// The value.
         value: Box<Expr>,
     },
@@ -410,11 +386,9 @@ pub enum ForInitialization {
     },
 }
 
-/// A comma and a further variable of a for loop.
+/// A variable that a for loop declares (12.7.1).
 #[derive(Drop)]
-pub struct NextForVariable {
-    /// `,`.
-    pub comma: u32,
+pub struct ForVariable {
     /// The type; where none is written, that of the variable before.
     pub data_type: Option<DataType>,
     /// The name.
@@ -423,22 +397,13 @@ pub struct NextForVariable {
     pub value: Initializer,
 }
 
-/// What a for loop does after each turn (12.7.1).
-#[derive(Drop)]
-pub struct ForSteps {
-    /// The first step.
-    pub first: ForStep,
-    /// The others.
-    pub others: Vec<NextForStep>,
-}
-
 /// A step of a for loop (12.7.1).
 #[derive(Drop)]
 pub enum ForStep {
     /// One added or taken off, with the operator in front: `++i`.
     Before {
         /// The operator.
-        operator: Word<StepOperator>,
+        operator: Mark<StepOperator>,
         /// The name.
         name: u32,
         /// Its selects.
@@ -455,15 +420,6 @@ pub enum ForStep {
     },
 }
 
-/// A comma and a step of a for loop.
-#[derive(Drop)]
-pub struct NextForStep {
-    /// `,`.
-    pub comma: u32,
-    /// The step.
-    pub step: ForStep,
-}
-
 /// A loop over the elements of an array: `foreach (a[i, j])` (12.7.3).
 #[cycle(statement)]
 #[derive(Drop)]
@@ -476,10 +432,8 @@ pub struct ForeachStatement {
     pub array: u32,
     /// `[`.
     pub opening_bracket: u32,
-    /// The first loop variable.
-    pub first: u32,
-    /// The others.
-    pub others: Vec<NextName>,
+    /// The loop variables.
+    pub names: Row<u32>,
     /// `]`.
     pub closing_bracket: u32,
     /// `)`.
@@ -493,7 +447,7 @@ pub struct ForeachStatement {
 #[derive(Drop)]
 pub struct LoopStatement {
     /// `while` or `repeat`.
-    pub keyword: Word<LoopKeyword>,
+    pub keyword: Mark<LoopKeyword>,
     /// The condition or the count.
     pub condition: Parenthesized,
     /// The statement.
@@ -553,7 +507,7 @@ pub struct VoidCall {
 #[derive(Drop)]
 pub struct StepStatement {
     /// The operator.
-    pub operator: Word<StepOperator>,
+    pub operator: Mark<StepOperator>,
     /// The name.
     pub name: u32,
     /// Its selects.
@@ -568,7 +522,7 @@ pub struct ConcatenationAssignment {
     /// The left sides.
     pub left: LeftConcatenation,
     /// The operator.
-    pub operator: Word<AssignmentOperator>,
+    pub operator: Mark<AssignmentOperator>,
     /// The value.
     pub value: Box<Expr>,
     /// `;`.
@@ -594,7 +548,7 @@ pub struct Func {
     /// `function`.
     pub keyword: u32,
     /// The lifetime of its variables, where one is written.
-    pub lifetime: Option<Word<Lifetime>>,
+    pub lifetime: Option<Mark<Lifetime>>,
     /// Its result's type and its name.
     pub result_type: FunctionResult,
     /// Its formal arguments, where there is a list of them.
@@ -609,6 +563,18 @@ pub struct Func {
     pub label: Option<Label>,
 }
 
+impl Func {
+    /// The number of the function's name.
+    pub fn name(&self) -> u32
+        ensures { result ≡ result_name self.now.result_type }
+    {
+        match &self.result_type {
+            FunctionResult::Void { name, .. } => *name,
+            FunctionResult::Typed { result } => result.declarator.name,
+        }
+    }
+}
+
 /// The type of a function's result, and the function's name (13.4).
 #[derive(Drop)]
 pub enum FunctionResult {
@@ -621,8 +587,8 @@ pub enum FunctionResult {
     },
     /// A type, where one is written, and the name. Its dimensions behind the name have to be none.
     Typed {
-        /// The type and the name.
-        data_type: TypeRef,
+        /// The name with its type.
+        result: TypedName,
     },
 }
 
@@ -631,19 +597,10 @@ pub enum FunctionResult {
 pub struct Formals {
     /// `(`.
     pub opening: u32,
-    /// The formals, where there are any.
-    pub list: Option<FormalList>,
+    /// The formals. `()` has none.
+    pub formals: Row<Formal>,
     /// `)`.
     pub closing: u32,
-}
-
-/// The formal arguments of a function.
-#[derive(Drop)]
-pub struct FormalList {
-    /// The first.
-    pub first: Formal,
-    /// The others.
-    pub others: Vec<NextFormal>,
 }
 
 /// A formal argument (13.5).
@@ -653,17 +610,17 @@ pub struct Formal {
     pub direction: Option<FormalDirection>,
     /// `var`, where it is written.
     pub variable: Option<u32>,
-    /// The type, where one is written, and the name.
-    pub data_type: TypeRef,
+    /// The name with its type.
+    pub parameter: TypedName,
 }
 
-/// A comma and a further formal argument.
-#[derive(Drop)]
-pub struct NextFormal {
-    /// `,`.
-    pub comma: u32,
-    /// The formal.
-    pub formal: Formal,
+impl Formal {
+    /// The number of the formal's name.
+    pub fn name(&self) -> u32
+        ensures { result ≡ self.now.parameter.declarator.name }
+    {
+        self.parameter.declarator.name
+    }
 }
 
 /// How a formal argument is passed (13.5).
@@ -672,7 +629,7 @@ pub enum FormalDirection {
     /// In, out or both.
     Value {
         /// The direction.
-        direction: Word<Dir>,
+        direction: Mark<Dir>,
     },
     /// By reference (13.5.2).
     Reference {

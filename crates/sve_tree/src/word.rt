@@ -1,6 +1,10 @@
+ghost use Rattle.std.specs.Prelude.{◌≡◌, Some};
+ghost use Rattle.sve_tree.specs.Shape.{first_token_of};
+ghost use Rattle.sve_tree.specs.Words.{scoped_name_tree, package_of};
+
 /// A token that says which of several things is meant: an operator, a direction, a keyword of a set.
 #[derive(Clone, Copy, Debug)]
-pub struct Word<K> {
+pub struct Mark<K> {
     /// What the token says.
     pub kind: K,
     /// Its number in the chunk, from 0.
@@ -235,22 +239,44 @@ pub enum StepOperator {
     Decrement,
 }
 
+/// A package in front of a name of it: `p::` (26.3, A.9.3).
+#[derive(Clone, Copy, Debug)]
+pub struct PackageScope {
+    /// The package.
+    pub name: u32,
+    /// `::`.
+    pub colons: u32,
+}
+
 /// A name, or a package and a name of it (26.3): `n` or `p::n`.
 #[derive(Clone, Copy, Debug)]
 pub struct ScopedName {
-    /// The first identifier: the package where there is a member, else the name.
-    pub first: u32,
-    /// The name after `::`.
-    pub member: Option<ScopeMember>,
-}
-
-/// `::` and a name.
-#[derive(Clone, Copy, Debug)]
-pub struct ScopeMember {
-    /// `::`.
-    pub colons: u32,
+    /// The package, where one is written.
+    pub scope: Option<PackageScope>,
     /// The name.
     pub name: u32,
+}
+
+impl ScopedName {
+    /// The number of the package's name, where one is written.
+    pub fn package(&self) -> Option<u32>
+        ensures { result ≡ package_of self.now.scope }
+    {
+        match self.scope {
+            Some(scope) => Some(scope.name),
+            None => None,
+        }
+    }
+
+    /// The number of its first token.
+    pub fn first_token(&self) -> u32
+        ensures { first_token_of (scoped_name_tree self.now) ≡ Some result }
+    {
+        match self.scope {
+            Some(scope) => scope.name,
+            None => self.name,
+        }
+    }
 }
 
 /// A colon and the name of a block, after `begin` or an end word (9.3.4).
@@ -258,15 +284,6 @@ pub struct ScopeMember {
 pub struct Label {
     /// `:`.
     pub colon: u32,
-    /// The name.
-    pub name: u32,
-}
-
-/// A comma and a further name of a list.
-#[derive(Clone, Copy, Debug)]
-pub struct NextName {
-    /// `,`.
-    pub comma: u32,
     /// The name.
     pub name: u32,
 }

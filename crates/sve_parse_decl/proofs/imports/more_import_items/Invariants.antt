@@ -2,14 +2,14 @@ use Rattle.std.proofs.Common.{◌≤◌, ◌-◌, length}
 use Rattle.sve_token.specs.declared.kind.Kind.TheVariants.{Comma}
 use Rattle.sve_grammar.specs.Rule.{tok, ◌∙◌}
 use Rattle.sve_grammar.specs.Declarations.{import_item, more_import_items}
-use Rattle.sve_grammar.specs.Reading.{at_depth}
+use Rattle.sve_grammar.specs.Reading.{leaf, at_depth}
 use Rattle.sve_grammar.proofs.Loops.{Keeps}
-use Rattle.sve_tree.specs.Shape.{repeated_tree}
-use Rattle.sve_tree.specs.Declarations.{next_import_item_tree}
+use Rattle.sve_tree.specs.Shape.{further_tree, IsRow}
+use Rattle.sve_tree.specs.Declarations.{import_item_tree}
 use Rattle.sve_parse_decl.proofs.imports.more_import_items.Given as goal
 
 abbrev pub invariant-turns : goal.invariant-turns
-invariant-turns l = Keeps l.tokens l.depth (tok Comma ∙ import_item) (repeated_tree next_import_item_tree l.items.items) l.at (at_depth l.tokens l.depth more_import_items l.from) × (l.from ≤ l.at)
+invariant-turns l = Keeps l.tokens l.depth (tok Comma ∙ import_item) (further_tree import_item_tree leaf l.items.items l.separators.items) l.at (at_depth l.tokens l.depth more_import_items l.from) × IsRow l.fn.first l.items.items l.separators.items × (l.from ≤ l.at)
 
 abbrev pub decreases-turns : goal.decreases-turns
 decreases-turns l = length l.tokens - l.at

@@ -3,14 +3,14 @@ use Rattle.sve_token.specs.declared.kind.Kind.TheVariants.{Comma}
 use Rattle.sve_grammar.specs.Rule.{tok, ◌∙◌}
 use Rattle.sve_grammar.specs.Types.{declared_name, initializer}
 use Rattle.sve_grammar.specs.Declarations.{more_parameters}
-use Rattle.sve_grammar.specs.Reading.{at_depth}
+use Rattle.sve_grammar.specs.Reading.{leaf, at_depth}
 use Rattle.sve_grammar.proofs.Loops.{Keeps}
-use Rattle.sve_tree.specs.Shape.{repeated_tree}
-use Rattle.sve_tree.specs.Declarations.{next_parameter_tree}
+use Rattle.sve_tree.specs.Shape.{further_tree, IsRow}
+use Rattle.sve_tree.specs.Declarations.{parameter_assignment_tree}
 use Rattle.sve_parse_decl.proofs.parameters.more_parameters.Given as goal
 
 abbrev pub invariant-turns : goal.invariant-turns
-invariant-turns l = Keeps l.tokens l.depth (tok Comma ∙ declared_name ∙ initializer) (repeated_tree next_parameter_tree l.items.items) l.at (at_depth l.tokens l.depth more_parameters l.from) × (l.from ≤ l.at)
+invariant-turns l = Keeps l.tokens l.depth (tok Comma ∙ declared_name ∙ initializer) (further_tree parameter_assignment_tree leaf l.items.items l.separators.items) l.at (at_depth l.tokens l.depth more_parameters l.from) × IsRow l.fn.first l.items.items l.separators.items × (l.from ≤ l.at)
 
 abbrev pub decreases-turns : goal.decreases-turns
 decreases-turns l = length l.tokens - l.at

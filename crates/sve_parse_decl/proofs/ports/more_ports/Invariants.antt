@@ -2,14 +2,14 @@ use Rattle.std.proofs.Common.{◌≤◌, ◌-◌, length}
 use Rattle.sve_token.specs.declared.kind.Kind.TheVariants.{Comma}
 use Rattle.sve_grammar.specs.Rule.{tok, ◌∙◌}
 use Rattle.sve_grammar.specs.Types.{port, more_ports}
-use Rattle.sve_grammar.specs.Reading.{at_depth}
+use Rattle.sve_grammar.specs.Reading.{leaf, at_depth}
 use Rattle.sve_grammar.proofs.Loops.{Keeps}
-use Rattle.sve_tree.specs.Shape.{repeated_tree}
-use Rattle.sve_tree.specs.Declarations.{next_port_tree}
+use Rattle.sve_tree.specs.Shape.{further_tree, IsRow}
+use Rattle.sve_tree.specs.Declarations.{port_tree}
 use Rattle.sve_parse_decl.proofs.ports.more_ports.Given as goal
 
 abbrev pub invariant-turns : goal.invariant-turns
-invariant-turns l = Keeps l.tokens l.depth (tok Comma ∙ port) (repeated_tree next_port_tree l.items.items) l.at (at_depth l.tokens l.depth more_ports l.from) × (l.from ≤ l.at)
+invariant-turns l = Keeps l.tokens l.depth (tok Comma ∙ port) (further_tree port_tree leaf l.items.items l.separators.items) l.at (at_depth l.tokens l.depth more_ports l.from) × IsRow l.fn.first l.items.items l.separators.items × (l.from ≤ l.at)
 
 abbrev pub decreases-turns : goal.decreases-turns
 decreases-turns l = length l.tokens - l.at

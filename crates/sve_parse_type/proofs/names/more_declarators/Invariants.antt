@@ -2,14 +2,14 @@ use Rattle.std.proofs.Common.{◌≤◌, ◌-◌, length}
 use Rattle.sve_token.specs.declared.kind.Kind.TheVariants.{Comma}
 use Rattle.sve_grammar.specs.Rule.{tok, ◌∙◌, opt}
 use Rattle.sve_grammar.specs.Types.{declared_name, initializer, more_declarators}
-use Rattle.sve_grammar.specs.Reading.{at_depth}
+use Rattle.sve_grammar.specs.Reading.{leaf, at_depth}
 use Rattle.sve_grammar.proofs.Loops.{Keeps}
-use Rattle.sve_tree.specs.Shape.{repeated_tree}
-use Rattle.sve_tree.specs.Declarations.{next_declarator_tree}
+use Rattle.sve_tree.specs.Shape.{further_tree, IsRow}
+use Rattle.sve_tree.specs.Declarations.{initialized_declarator_tree}
 use Rattle.sve_parse_type.proofs.names.more_declarators.Given as goal
 
 abbrev pub invariant-turns : goal.invariant-turns
-invariant-turns l = Keeps l.tokens l.depth (tok Comma ∙ declared_name ∙ opt initializer) (repeated_tree next_declarator_tree l.items.items) l.at (at_depth l.tokens l.depth more_declarators l.from) × (l.from ≤ l.at)
+invariant-turns l = Keeps l.tokens l.depth (tok Comma ∙ declared_name ∙ opt initializer) (further_tree initialized_declarator_tree leaf l.items.items l.separators.items) l.at (at_depth l.tokens l.depth more_declarators l.from) × IsRow l.fn.first l.items.items l.separators.items × (l.from ≤ l.at)
 
 abbrev pub decreases-turns : goal.decreases-turns
 decreases-turns l = length l.tokens - l.at

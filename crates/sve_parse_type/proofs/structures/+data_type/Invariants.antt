@@ -2,7 +2,7 @@ use Rattle.std.proofs.Common.{◌≤◌, ◌-◌, ◌+◌, ◌*◌, length}
 use Rattle.sve_grammar.specs.Types.{member, members}
 use Rattle.sve_grammar.specs.Reading.{at_depth}
 use Rattle.sve_grammar.proofs.Loops.{Keeps}
-use Rattle.sve_tree.specs.Shape.{repeated_tree}
+use Rattle.sve_tree.specs.Shape.{others_tree, BeginsWith}
 use Rattle.sve_tree.specs.Types.{members_tree}
 use Rattle.sve_parse_type.proofs.structures.+data_type.Given as goal
 
@@ -17,14 +17,14 @@ decreases-type_reference l = (513 - l.depth) * 8 + 1
 abbrev pub decreases-member : goal.decreases-member
 decreases-member l = (513 - l.depth) * 8 + 2
 
-abbrev pub decreases-members : goal.decreases-members
-decreases-members l = (513 - l.depth) * 8 + 3
+abbrev pub decreases-more_members : goal.decreases-more_members
+decreases-more_members l = (513 - l.depth) * 8 + 3
 
 abbrev pub decreases-structure : goal.decreases-structure
 decreases-structure l = (513 - l.depth) * 8 + 4
 
-abbrev pub invariant-members-turns : goal.invariant-members-turns
-invariant-members-turns l = Keeps l.tokens l.depth member (repeated_tree members_tree l.items.items) l.at (at_depth l.tokens l.depth members l.from) × (l.from ≤ l.at)
+abbrev pub invariant-more_members-turns : goal.invariant-more_members-turns
+invariant-more_members-turns l = Keeps l.tokens l.depth member (others_tree members_tree l.items.items) l.at (at_depth l.tokens l.depth members l.from) × BeginsWith l.fn.first l.items.items × (l.from ≤ l.at)
 
-abbrev pub decreases-members-turns : goal.decreases-members-turns
-decreases-members-turns l = length l.tokens - l.at
+abbrev pub decreases-more_members-turns : goal.decreases-more_members-turns
+decreases-more_members-turns l = length l.tokens - l.at
