@@ -1,0 +1,4 @@
+pub mod Lists
+pub mod Prefixes
+pub mod Seated
+pub mod EachStep

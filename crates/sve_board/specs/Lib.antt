@@ -1,0 +1,5 @@
+pub mod Log
+pub mod Values
+pub mod Knowledge
+pub mod Steps
+pub mod Rule
