@@ -2,10 +2,7 @@
 # Seconds and peak memory of the built program where it expands generated texts: 1 MiB of plain text, 1 MiB of macro uses, and
 # 2,000 files that each include one header. With a program as an argument, that one is measured in place of `svserve`.
 # It needs python3 and GNU time.
-here=$(cd "$(dirname "$0")/.." && pwd) || exit 1
-program=${1:-$here/svserve}
-work=$(mktemp -d) || exit 1
-trap 'rm -rf "$work"' EXIT
+. "$(dirname "$0")/common.sh" || exit 1
 
 python3 - "$work" <<'END'
 import json, sys
@@ -34,11 +31,4 @@ includes = [(f"m{i}.sv", f'`include "h.svh"\nmodule m{i}; wire [`M7:0] w; endmod
 write("includes", [("h.svh", header)] + includes, [n for n, _ in includes])
 END
 
-for session in plain plain-8 uses uses-8 includes; do
-    size=$(wc -c <"$work/$session.json")
-    echo "$session: session of $size bytes"
-    for _ in 1 2 3 4 5; do
-        /usr/bin/time -f '  %e s, peak %M KiB' "$program" run <"$work/$session.json" >"$work/report"
-    done
-    echo "  report of $(wc -c <"$work/report") bytes"
-done
+measure plain plain-8 uses uses-8 includes

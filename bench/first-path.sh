@@ -2,10 +2,7 @@
 # Seconds and peak memory of the built program on two generated sessions: 2,000 puts and asks of 4 KiB each, and 20,000
 # small commits over 2,000 names. With a program as an argument, that one is measured in place of `svserve`.
 # It needs python3 and GNU time.
-here=$(cd "$(dirname "$0")/.." && pwd) || exit 1
-program=${1:-$here/svserve}
-work=$(mktemp -d) || exit 1
-trap 'rm -rf "$work"' EXIT
+. "$(dirname "$0")/common.sh" || exit 1
 
 python3 - "$work" <<'END'
 import json, sys
@@ -29,11 +26,4 @@ commands = [{"commit": [{"put": f"rtl/n{i * 7 % 2000}.sv", "text": f"// {i}\n"}]
 write("commits", commands + [{"commit": []}] * 18000)
 END
 
-for session in texts commits; do
-    size=$(wc -c <"$work/$session.json")
-    echo "$session: session of $size bytes"
-    for _ in 1 2 3 4 5; do
-        /usr/bin/time -f '  %e s, peak %M KiB' "$program" run <"$work/$session.json" >"$work/report"
-    done
-    echo "  report of $(wc -c <"$work/report") bytes"
-done
+measure texts commits

@@ -2,10 +2,7 @@
 # Seconds of the built program where it expands texts of one mebibyte that a hostile user may write: directives that go on
 # and on, uses that give little, conditionals without an end. It fails where one takes more than two seconds.
 # With a program as an argument, that one is measured in place of `svserve`. It needs python3 and GNU time.
-here=$(cd "$(dirname "$0")/.." && pwd) || exit 1
-program=${1:-$here/svserve}
-work=$(mktemp -d) || exit 1
-trap 'rm -rf "$work"' EXIT
+. "$(dirname "$0")/common.sh" || exit 1
 
 python3 - "$work" <<'END'
 import json, sys

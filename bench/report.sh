@@ -1,11 +1,8 @@
 #!/bin/sh
-# Seconds, megabytes of report for each second of processor, and peak memory of the built program on sessions with large answers: a text of a
-# million line feeds asked for 40 times, and 7 MiB of source asked for 12 times. With a program as an argument, that one is
-# measured in place of `svserve`. It needs python3 and GNU time.
-here=$(cd "$(dirname "$0")/.." && pwd) || exit 1
-program=${1:-$here/svserve}
-work=$(mktemp -d) || exit 1
-trap 'rm -rf "$work"' EXIT
+# Seconds, megabytes of report for each second of processor, and peak memory of the built program on sessions with large
+# answers: a text of a million line feeds asked for 40 times, and 7 MiB of source asked for 12 times. With a program as an
+# argument, that one is measured in place of `svserve`. It needs python3 and GNU time.
+. "$(dirname "$0")/common.sh" || exit 1
 
 python3 - "$work" <<'END'
 import json, sys
