@@ -4,10 +4,12 @@ use Rattle.std.specs.Str.Parse.{digits_value}
 use Rattle.std.proofs.lemmas.Fmt.{decimal_is_IsNumeral, decimal_nonempty}
 use Rattle.sve_report.specs.declared.entry.Entry.{Entry}
 use Rattle.sve_report.specs.declared.record.Record.{Record}
-use Rattle.sve_report.specs.declared.record.Record.TheVariants.{Accepted, Answered}
+use Rattle.sve_report.specs.declared.record.Record.TheVariants.{Accepted, Refused, Answered}
+use Rattle.sve_text.specs.declared.why.Why.{Why}
+use Rattle.sve_text.specs.declared.why.Why.TheVariants.{NoFile, Stale, Range, FileTooLarge, TooManyFiles}
 use Rattle.sve_report.specs.Lines.{ended, text_of_lines, Lacks, AreLines}
-use Rattle.sve_report.specs.Reports.{entry_line, entry_lines, record_lines, client_lines, clients_lines, report}
-use Rattle.sve_report.specs.ReadBack.{Fits64, EntriesFit, RecordFits, RecordsFit, AllRecordsFit, IsReadBack}
+use Rattle.sve_report.specs.Reports.{entry_line, entry_lines, why_text, refusal_text, record_lines, client_lines, clients_lines, report}
+use Rattle.sve_report.specs.ReadBack.{Fits64, EntriesFit, WhyFits, RecordFits, RecordsFit, AllRecordsFit, IsReadBack}
 use Rattle.sve_report.proofs.LineTexts.{AreDigits, digits-decimal, decimal-lacks, lacks-append, lacks_by, text-append, are_lines-append}
 
 -- the two parts of a text round the first byte that the first part lacks
@@ -95,10 +97,61 @@ history_read es fs rs ss se sf he hf e =
     let size = same_number (length es) (length fs) se sf (front_gone (codes "history ") _ _ p.0) in
     entries_read 1 es fs _ _ he hf size (omega (arith, se)) p.1
 
+-- ---- reasons
+
+why_lacks : (w : Why) → WhyFits w → Lacks 10 (why_text w)
+why_lacks NoFile fits = lacks_by 10 (codes "nofile") refl
+why_lacks (Stale n) fits = lacks-append 10 (codes "stale ") (decimal n) (lacks_by 10 (codes "stale ") refl) (decimal-lacks 10 n (omega arith) fits)
+why_lacks (Range n) fits = lacks-append 10 (codes "range ") (decimal n) (lacks_by 10 (codes "range ") refl) (decimal-lacks 10 n (omega arith) fits)
+why_lacks (FileTooLarge n) fits = lacks-append 10 (codes "filetoolarge ") (decimal n) (lacks_by 10 (codes "filetoolarge ") refl) (decimal-lacks 10 n (omega arith) fits)
+why_lacks TooManyFiles fits = lacks_by 10 (codes "toomanyfiles") refl
+
+-- reasons differ in their first letter
+why_read : (v w : Why) → WhyFits v → WhyFits w → why_text v ≡ why_text w → v ≡ w
+why_read NoFile NoFile fv fw e = refl
+why_read NoFile (Stale n) fv fw e = let first : 110 ≡ 115 = ap (λ (l : List ℕ). get_or l 0 0) e in absurd (omega (arith, first))
+why_read NoFile (Range n) fv fw e = let first : 110 ≡ 114 = ap (λ (l : List ℕ). get_or l 0 0) e in absurd (omega (arith, first))
+why_read NoFile (FileTooLarge n) fv fw e = let first : 110 ≡ 102 = ap (λ (l : List ℕ). get_or l 0 0) e in absurd (omega (arith, first))
+why_read NoFile TooManyFiles fv fw e = let first : 110 ≡ 116 = ap (λ (l : List ℕ). get_or l 0 0) e in absurd (omega (arith, first))
+why_read (Stale m) NoFile fv fw e = let first : 115 ≡ 110 = ap (λ (l : List ℕ). get_or l 0 0) e in absurd (omega (arith, first))
+why_read (Stale m) (Stale n) fv fw e = let same = same_number m n fv fw (front_gone (codes "stale ") _ _ e) in (λ k. Stale (same k))
+why_read (Stale m) (Range n) fv fw e = let first : 115 ≡ 114 = ap (λ (l : List ℕ). get_or l 0 0) e in absurd (omega (arith, first))
+why_read (Stale m) (FileTooLarge n) fv fw e = let first : 115 ≡ 102 = ap (λ (l : List ℕ). get_or l 0 0) e in absurd (omega (arith, first))
+why_read (Stale m) TooManyFiles fv fw e = let first : 115 ≡ 116 = ap (λ (l : List ℕ). get_or l 0 0) e in absurd (omega (arith, first))
+why_read (Range m) NoFile fv fw e = let first : 114 ≡ 110 = ap (λ (l : List ℕ). get_or l 0 0) e in absurd (omega (arith, first))
+why_read (Range m) (Stale n) fv fw e = let first : 114 ≡ 115 = ap (λ (l : List ℕ). get_or l 0 0) e in absurd (omega (arith, first))
+why_read (Range m) (Range n) fv fw e = let same = same_number m n fv fw (front_gone (codes "range ") _ _ e) in (λ k. Range (same k))
+why_read (Range m) (FileTooLarge n) fv fw e = let first : 114 ≡ 102 = ap (λ (l : List ℕ). get_or l 0 0) e in absurd (omega (arith, first))
+why_read (Range m) TooManyFiles fv fw e = let first : 114 ≡ 116 = ap (λ (l : List ℕ). get_or l 0 0) e in absurd (omega (arith, first))
+why_read (FileTooLarge m) NoFile fv fw e = let first : 102 ≡ 110 = ap (λ (l : List ℕ). get_or l 0 0) e in absurd (omega (arith, first))
+why_read (FileTooLarge m) (Stale n) fv fw e = let first : 102 ≡ 115 = ap (λ (l : List ℕ). get_or l 0 0) e in absurd (omega (arith, first))
+why_read (FileTooLarge m) (Range n) fv fw e = let first : 102 ≡ 114 = ap (λ (l : List ℕ). get_or l 0 0) e in absurd (omega (arith, first))
+why_read (FileTooLarge m) (FileTooLarge n) fv fw e = let same = same_number m n fv fw (front_gone (codes "filetoolarge ") _ _ e) in (λ k. FileTooLarge (same k))
+why_read (FileTooLarge m) TooManyFiles fv fw e = let first : 102 ≡ 116 = ap (λ (l : List ℕ). get_or l 0 0) e in absurd (omega (arith, first))
+why_read TooManyFiles NoFile fv fw e = let first : 116 ≡ 110 = ap (λ (l : List ℕ). get_or l 0 0) e in absurd (omega (arith, first))
+why_read TooManyFiles (Stale n) fv fw e = let first : 116 ≡ 115 = ap (λ (l : List ℕ). get_or l 0 0) e in absurd (omega (arith, first))
+why_read TooManyFiles (Range n) fv fw e = let first : 116 ≡ 114 = ap (λ (l : List ℕ). get_or l 0 0) e in absurd (omega (arith, first))
+why_read TooManyFiles (FileTooLarge n) fv fw e = let first : 116 ≡ 102 = ap (λ (l : List ℕ). get_or l 0 0) e in absurd (omega (arith, first))
+why_read TooManyFiles TooManyFiles fv fw e = refl
+
 -- ---- records
+
+refused-right : (j r e : ℕ) (w : Why) → decimal j ++ refusal_text r e w ≡ decimal j ++ (codes " refused " ++ (decimal r ++ (codes " edit " ++ (decimal e ++ 32 ∷ why_text w))))
+refused-right j r e w =
+    let parts : refusal_text r e w ≡ codes " refused " ++ (decimal r ++ (codes " edit " ++ (decimal e ++ 32 ∷ why_text w))) = simp append_assoc in
+    ap (λ (t : List ℕ). decimal j ++ t) parts
 
 accepted_lacks : (j r : ℕ) → Fits64 j → Fits64 r → Lacks 10 (decimal j ++ codes " accepted " ++ decimal r)
 accepted_lacks j r fj fr = lacks-append 10 _ (decimal r) (lacks-append 10 (decimal j) _ (decimal-lacks 10 j (omega arith) fj) (lacks_by 10 (codes " accepted ") refl)) (decimal-lacks 10 r (omega arith) fr)
+
+refused_lacks : (j r e : ℕ) (w : Why) → Fits64 j → Fits64 r → Fits64 e → WhyFits w → Lacks 10 (decimal j ++ refusal_text r e w)
+refused_lacks j r e w fj fr fe fw =
+    subst (Lacks 10) (sym (refused-right j r e w))
+    (lacks-append 10 (decimal j) _ (decimal-lacks 10 j (omega arith) fj)
+    (lacks-append 10 (codes " refused ") _ (lacks_by 10 (codes " refused ") refl)
+    (lacks-append 10 (decimal r) _ (decimal-lacks 10 r (omega arith) fr)
+    (lacks-append 10 (codes " edit ") _ (lacks_by 10 (codes " edit ") refl)
+    (lacks-append 10 (decimal e) _ (decimal-lacks 10 e (omega arith) fe) ((λ same. absurd (omega (arith, same))), why_lacks w fw))))))
 
 answered_lacks : (j r n : ℕ) → Fits64 j → Fits64 r → Fits64 n → Lacks 10 (decimal j ++ codes " answer " ++ decimal r ++ codes " " ++ decimal n)
 answered_lacks j r n fj fr fn =
@@ -106,6 +159,7 @@ answered_lacks j r n fj fr fn =
 
 record_are_lines : (j : ℕ) (rec : Record) → Fits64 j → RecordFits rec → AreLines (record_lines j rec)
 record_are_lines j (Accepted r) fj fits = (accepted_lacks j r fj fits, tt)
+record_are_lines j (Refused r e w) fj fits = (refused_lacks j r e w fj fits.0 fits.1 fits.2, tt)
 record_are_lines j (Answered r lines) fj fits = (answered_lacks j r (length lines) fj fits.0 fits.1, fits.2)
 
 client_are_lines : (j : ℕ) (recs : List Record) → RecordsFit recs → j + length recs ≤ 2 ^ 64 → AreLines (client_lines j recs)
@@ -125,12 +179,24 @@ accepted-right j r = append_assoc (decimal j) (codes " accepted ") (decimal r)
 answered-right : (j r n : ℕ) → decimal j ++ codes " answer " ++ decimal r ++ codes " " ++ decimal n ≡ decimal j ++ (codes " answer " ++ (decimal r ++ 32 ∷ decimal n))
 answered-right j r n = simp append_assoc
 
--- the two kinds of record differ in their third letter
 not_alike : (j r q n : ℕ) → decimal j ++ codes " accepted " ++ decimal r ≡ decimal j ++ codes " answer " ++ decimal q ++ codes " " ++ decimal n → ⊥
 not_alike j r q n e =
     let tails = front_gone (decimal j) _ _ (sym (accepted-right j r) ∙ e ∙ answered-right j q n) in
     let third : 99 ≡ 110 = ap (λ (l : List ℕ). get_or l 2 0) tails in
     absurd (omega (arith, third))
+
+-- the kinds of record differ in their second or third letter
+no_refusal : (j r q e : ℕ) (w : Why) → decimal j ++ codes " accepted " ++ decimal r ≡ decimal j ++ refusal_text q e w → ⊥
+no_refusal j r q e w same =
+    let tails = front_gone (decimal j) _ _ (sym (accepted-right j r) ∙ same ∙ refused-right j q e w) in
+    let second : 97 ≡ 114 = ap (λ (l : List ℕ). get_or l 1 0) tails in
+    absurd (omega (arith, second))
+
+no_answer : (j r n q e : ℕ) (w : Why) → decimal j ++ codes " answer " ++ decimal r ++ codes " " ++ decimal n ≡ decimal j ++ refusal_text q e w → ⊥
+no_answer j r n q e w same =
+    let tails = front_gone (decimal j) _ _ (sym (answered-right j r n) ∙ same ∙ refused-right j q e w) in
+    let second : 97 ≡ 114 = ap (λ (l : List ℕ). get_or l 1 0) tails in
+    absurd (omega (arith, second))
 
 -- the lines of two records that go on alike
 record_read : (j : ℕ) (x y : Record) (ls ms : List (List ℕ)) → RecordFits x → RecordFits y → record_lines j x ++ ls ≡ record_lines j y ++ ms → (x ≡ y) × (ls ≡ ms)
@@ -141,6 +207,27 @@ record_read j (Accepted r) (Accepted q) ls ms fx fy e =
 record_read j (Accepted r) (Answered q lines) ls ms fx fy e =
     let heads : decimal j ++ codes " accepted " ++ decimal r ≡ decimal j ++ codes " answer " ++ decimal q ++ codes " " ++ decimal (length lines) = cc (e) in
     absurd (not_alike j r q (length lines) heads)
+record_read j (Accepted r) (Refused q f w) ls ms fx fy e =
+    let heads : decimal j ++ codes " accepted " ++ decimal r ≡ decimal j ++ refusal_text q f w = cc (e) in
+    absurd (no_refusal j r q f w heads)
+record_read j (Refused r f v) (Accepted q) ls ms fx fy e =
+    let heads : decimal j ++ codes " accepted " ++ decimal q ≡ decimal j ++ refusal_text r f v = cc (e) in
+    absurd (no_refusal j q r f v heads)
+record_read j (Answered r lines) (Refused q f w) ls ms fx fy e =
+    let heads : decimal j ++ codes " answer " ++ decimal r ++ codes " " ++ decimal (length lines) ≡ decimal j ++ refusal_text q f w = cc (e) in
+    absurd (no_answer j r (length lines) q f w heads)
+record_read j (Refused r f v) (Answered q lines) ls ms fx fy e =
+    let heads : decimal j ++ codes " answer " ++ decimal q ++ codes " " ++ decimal (length lines) ≡ decimal j ++ refusal_text r f v = cc (e) in
+    absurd (no_answer j q (length lines) r f v heads)
+record_read j (Refused r f v) (Refused q g w) ls ms fx fy e =
+    let heads : decimal j ++ refusal_text r f v ≡ decimal j ++ refusal_text q g w = cc (e) in
+    let tails = front_gone (codes " refused ") _ _ (front_gone (decimal j) _ _ (sym (refused-right j r f v) ∙ heads ∙ refused-right j q g w)) in
+    let p = parted 32 (decimal r) (decimal q) _ _ (decimal-lacks 32 r (omega arith) fx.0) (decimal-lacks 32 q (omega arith) fy.0) tails in
+    let q' = parted 32 (decimal f) (decimal g) (why_text v) (why_text w) (decimal-lacks 32 f (omega arith) fx.1) (decimal-lacks 32 g (omega arith) fy.1) (front_gone (codes "edit ") _ _ p.1) in
+    let revision = same_number r q fx.0 fy.0 p.0 in
+    let edit = same_number f g fx.1 fy.1 q'.0 in
+    let why = why_read v w fx.2 fy.2 q'.1 in
+    ((λ k. Refused (revision k) (edit k) (why k)), cc (e))
 record_read j (Answered r lines) (Accepted q) ls ms fx fy e =
     let heads : decimal j ++ codes " accepted " ++ decimal q ≡ decimal j ++ codes " answer " ++ decimal r ++ codes " " ++ decimal (length lines) = cc (e) in
     absurd (not_alike j q r (length lines) heads)
@@ -162,6 +249,7 @@ digit_first (d ∷ ds) xs ys h some e = let first : 99 ≡ d = cc (e) in absurd 
 -- the first line of a record, and the other ones
 head_of : (j : ℕ) (rec : Record) → (h : List ℕ) × (t : List (List ℕ)) × (record_lines j rec ≡ (decimal j ++ h) ∷ t)
 head_of j (Accepted r) = (codes " accepted " ++ decimal r, [], ap (λ (l : List ℕ). l ∷ []) (accepted-right j r))
+head_of j (Refused r e w) = (codes " refused " ++ (decimal r ++ (codes " edit " ++ (decimal e ++ 32 ∷ why_text w))), [], ap (λ (l : List ℕ). l ∷ []) (refused-right j r e w))
 head_of j (Answered r lines) = (codes " answer " ++ (decimal r ++ 32 ∷ decimal (length lines)), lines, ap (λ (l : List ℕ). l ∷ lines) (answered-right j r (length lines)))
 
 no_client : (i j : ℕ) (more : List (List Record)) (rec : Record) (ls : List (List ℕ)) → Fits64 j → clients_lines i more ≡ record_lines j rec ++ ls → ⊥

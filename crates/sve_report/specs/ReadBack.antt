@@ -2,7 +2,9 @@
 use Rattle.std.specs.Prelude.{ℕ, ◌≡◌, ◌^◌, ◌<◌, List, [], ◌∷◌, length}
 use Rattle.sve_report.specs.declared.entry.Entry.{Entry}
 use Rattle.sve_report.specs.declared.record.Record.{Record}
-use Rattle.sve_report.specs.declared.record.Record.TheVariants.{Accepted, Answered}
+use Rattle.sve_report.specs.declared.record.Record.TheVariants.{Accepted, Refused, Answered}
+use Rattle.sve_text.specs.declared.why.Why.{Why}
+use Rattle.sve_text.specs.declared.why.Why.TheVariants.{NoFile, Stale, Range, FileTooLarge, TooManyFiles}
 use Rattle.sve_report.specs.Lines.{AreLines}
 use Rattle.sve_report.specs.Reports.{report}
 
@@ -15,9 +17,18 @@ abbrev pub EntriesFit : List Entry → Type 0
 EntriesFit [] = Unit {0}
 EntriesFit (entry ∷ entries) = Fits64 entry.client × Fits64 entry.command × EntriesFit entries
 
+-- the number of a reason is of 64 bits
+abbrev pub WhyFits : Why → Type 0
+WhyFits NoFile = Unit {0}
+WhyFits (Stale stamp) = Fits64 stamp
+WhyFits (Range len) = Fits64 len
+WhyFits (FileTooLarge bytes) = Fits64 bytes
+WhyFits TooManyFiles = Unit {0}
+
 -- its numbers are of 64 bits, and no line of it holds a line feed
 abbrev pub RecordFits : Record → Type 0
 RecordFits (Accepted r) = Fits64 r
+RecordFits (Refused r edit why) = Fits64 r × Fits64 edit × WhyFits why
 RecordFits (Answered r lines) = Fits64 r × Fits64 (length lines) × AreLines lines
 
 abbrev pub RecordsFit : List Record → Type 0

@@ -2,7 +2,9 @@
 use Rattle.std.specs.Prelude.{ℕ, ◌+◌, List, [], ◌∷◌, ◌++◌, length, codes, decimal}
 use Rattle.sve_report.specs.declared.entry.Entry.{Entry}
 use Rattle.sve_report.specs.declared.record.Record.{Record}
-use Rattle.sve_report.specs.declared.record.Record.TheVariants.{Accepted, Answered}
+use Rattle.sve_report.specs.declared.record.Record.TheVariants.{Accepted, Refused, Answered}
+use Rattle.sve_text.specs.declared.why.Why.{Why}
+use Rattle.sve_text.specs.declared.why.Why.TheVariants.{NoFile, Stale, Range, FileTooLarge, TooManyFiles}
 use Rattle.sve_report.specs.Lines.{text_of_lines}
 
 -- `<r> <client> <command>`
@@ -14,9 +16,22 @@ abbrev pub entry_lines : ℕ → List Entry → List (List ℕ)
 entry_lines r [] = []
 entry_lines r (entry ∷ entries) = entry_line r entry ∷ entry_lines (r + 1) entries
 
--- the record of command j: `<j> accepted <r>`, or `<j> answer <r> <k>` and the k lines
+-- why a commit was refused, with the number that tells more
+abbrev pub why_text : Why → List ℕ
+why_text NoFile = codes "nofile"
+why_text (Stale stamp) = codes "stale " ++ decimal stamp
+why_text (Range len) = codes "range " ++ decimal len
+why_text (FileTooLarge bytes) = codes "filetoolarge " ++ decimal bytes
+why_text TooManyFiles = codes "toomanyfiles"
+
+-- ` refused <r> edit <e> <why>`
+abbrev pub refusal_text : ℕ → ℕ → Why → List ℕ
+refusal_text r edit why = codes " refused " ++ decimal r ++ codes " edit " ++ decimal edit ++ codes " " ++ why_text why
+
+-- The record of command j: `<j> accepted <r>`, `<j> refused <r> edit <e> <why>`, or `<j> answer <r> <k>` and the k lines.
 abbrev pub record_lines : ℕ → Record → List (List ℕ)
 record_lines j (Accepted r) = (decimal j ++ codes " accepted " ++ decimal r) ∷ []
+record_lines j (Refused r edit why) = (decimal j ++ refusal_text r edit why) ∷ []
 record_lines j (Answered r lines) = (decimal j ++ codes " answer " ++ decimal r ++ codes " " ++ decimal (length lines)) ∷ lines
 
 -- the records of one client, from command j on

@@ -2,13 +2,14 @@
 ghost use Rattle.std.specs.Prelude.{◌≡◌, ◌++◌, ◌∷◌, [], IfOk, OnOk, codes, decimal};
 ghost use Rattle.sve_report.specs.Lines.{ended, text_of_lines};
 ghost use Rattle.sve_report.specs.ReadBack.{IsReadBack};
-ghost use Rattle.sve_report.specs.Reports.{report, entry_line, entry_lines, record_lines, client_lines, clients_lines};
+ghost use Rattle.sve_report.specs.Reports.{report, entry_line, entry_lines, why_text, refusal_text, record_lines, client_lines, clients_lines};
 
 use crate::entry::Entry;
 use crate::record::Record;
 use itoa::Buffer;
 use std::alloc::Global;
 use sve_bytes::{List, NoMemory};
+use sve_text::Why;
 
 /// The report of a history and of the records of each client, client 1 first.
 pub fn report_text(
@@ -82,7 +83,7 @@ fn add_records(text: &mut Vec<u8>, records: &[Record]) -> Result<(), NoMemory>
     Ok(())
 }
 
-/// `<j> accepted <r>`, or `<j> answer <r> <k>` and the k lines.
+/// `<j> accepted <r>`, `<j> refused <r> edit <e> <why>`, or `<j> answer <r> <k>` and the k lines.
 fn add_record(text: &mut Vec<u8>, j: u64, outcome: &Record) -> Result<(), NoMemory>
     ensures { OnOk result (text.new.items ≡ text.old.items ++ text_of_lines (record_lines j outcome.now)) }
 {
@@ -91,6 +92,10 @@ fn add_record(text: &mut Vec<u8>, j: u64, outcome: &Record) -> Result<(), NoMemo
         Record::Accepted { r } => {
             add_words(text, b" accepted ")?;
             add_number(text, *r)?;
+            add_words(text, b"\n")
+        }
+        Record::Refused { r, edit, why } => {
+            add_refusal(text, *r, *edit, why)?;
             add_words(text, b"\n")
         }
         Record::Answered { r, lines } => {
@@ -102,6 +107,38 @@ fn add_record(text: &mut Vec<u8>, j: u64, outcome: &Record) -> Result<(), NoMemo
             add_words(text, lines.text())
         }
     }
+}
+
+/// ` refused <r> edit <e> <why>`
+fn add_refusal(text: &mut Vec<u8>, r: u64, edit: u32, why: &Why) -> Result<(), NoMemory>
+    ensures { OnOk result (text.new.items ≡ text.old.items ++ refusal_text r edit why.now) }
+{
+    add_words(text, b" refused ")?;
+    add_number(text, r)?;
+    add_words(text, b" edit ")?;
+    add_number(text, u64::from(edit))?;
+    add_words(text, b" ")?;
+    add_why(text, why)
+}
+
+/// `nofile`, `stale <stamp>`, `range <length>`, `filetoolarge <bytes>` or `toomanyfiles`.
+fn add_why(text: &mut Vec<u8>, why: &Why) -> Result<(), NoMemory>
+    ensures { OnOk result (text.new.items ≡ text.old.items ++ why_text why.now) }
+{
+    match why {
+        Why::NoFile => add_words(text, b"nofile"),
+        Why::Stale { stamp } => add_measure(text, b"stale ", *stamp),
+        Why::Range { length } => add_measure(text, b"range ", u64::from(*length)),
+        Why::FileTooLarge { bytes } => add_measure(text, b"filetoolarge ", *bytes),
+        Why::TooManyFiles => add_words(text, b"toomanyfiles"),
+    }
+}
+
+fn add_measure(text: &mut Vec<u8>, words: &[u8], n: u64) -> Result<(), NoMemory>
+    ensures { OnOk result (text.new.items ≡ text.old.items ++ (words.now ++ decimal n)) }
+{
+    add_words(text, words)?;
+    add_number(text, n)
 }
 
 /// The law of reports: the history is read off the bytes of a report, and so are the records where none of their lines

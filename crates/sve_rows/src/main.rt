@@ -7,7 +7,8 @@
 //! - Among the words `read!N` lets call N of the source fail, counted from 1, and `write!N` call N of the sink; each may stand
 //!   several times.
 //! - `run repeat!N | FRONT | UNIT | BETWEEN | BACK` has as its bytes FRONT, then N times UNIT with BETWEEN between them, then
-//!   BACK, each without the blanks round it. Both ends then move 65,536 bytes a call, and only the number of lines is told.
+//!   BACK, each without the blanks round it. `#` in UNIT stands for the number of the turn, from 0. Both ends then move
+//!   65,536 bytes a call, and where the sink holds more than one line, only their number is told.
 //! - `%` and two hexadecimal digits stand for the byte with that number.
 #![tactic(auto)]
 

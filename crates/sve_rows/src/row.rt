@@ -1,4 +1,5 @@
 //! The lines of the table: what they run.
+use itoa::Buffer;
 use percent_encoding::percent_decode;
 use std::alloc::{AllocError, Global};
 
@@ -70,7 +71,18 @@ fn add_repeated(bytes: &mut Vec<u8>, times: u32, pieces: &str) -> Result<(), All
         if i > 0 {
             bytes.extend_from_slice(between)?;
         }
-        bytes.extend_from_slice(unit)?;
+        add_unit(bytes, unit, i)?;
     }
     bytes.extend_from_slice(back.trim().as_bytes())
+}
+
+/// Adds one turn of a repeated piece, in which `#` stands for the number of the turn.
+fn add_unit(bytes: &mut Vec<u8>, unit: &[u8], turn: u32) -> Result<(), AllocError> {
+    for byte in unit {
+        match byte {
+            b'#' => bytes.extend_from_slice(Buffer::new().format(turn).as_bytes())?,
+            _ => bytes.push(*byte)?,
+        }
+    }
+    Ok(())
 }

@@ -24,8 +24,8 @@ pub fn write_run<R: Threads + Wait + Sync, W: Write>(
     let mut sink = MemSink::new(alloc, writes, row.failing_writes, ROOM)?;
     let status = serve(rt, alloc, &row.words, &mut source, &mut sink);
     writeln!(out, "=> {}", exit_code(status))?;
-    if is_long {
-        let lines = sink.held().iter().filter(|b| **b == b'\n').count();
+    let lines = sink.held().iter().filter(|b| **b == b'\n').count();
+    if is_long && lines > 1 {
         writeln!(out, "  {lines} lines")
     } else {
         write_held(sink.held(), out)

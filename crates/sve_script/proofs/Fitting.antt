@@ -1,142 +1,118 @@
--- A session has one client, and no edit of it has a text above the limit.
-use Rattle.std.proofs.Common.{◌≡◌, ℕ, ◌≤◌, ◌&&◌, Bool, true, false, List, [], ◌∷◌, Option, Some, None, length, All, option_and_then, option_map, if◌then◌else◌, nat_le, codes, bytes_eq, refl, subst}
-use Rattle.std.proofs.lemmas.Bool.{and_parts, leb-true, eqb-true}
-use Rattle.std.proofs.lemmas.List.Elements.{All-from_recursion}
+-- What is known of a session that is in its limits, and of its parts.
+use Rattle.std.proofs.Common.{◌≡◌, ℕ, ◌+◌, ◌≤◌, Bool, true, false, List, [], ◌∷◌, Option, Some, None, Result, Ok, Err, IfOk, length, sum_by, All, if◌then◌else◌, nat_le, codes, decimal, refl, sym, subst, arith}
 use Rattle.std.specs.List.{AllByRecursion}
+use Rattle.std.proofs.lemmas.Bool.{leb-true}
+use Rattle.std.proofs.lemmas.List.Elements.{All-from_recursion}
 use Rattle.serde_json.specs.Data.{Data, Items, no_items, item, Members}
-use Rattle.serde_json.specs.Find.{as_str, as_array, as_object}
-use Rattle.sve_bytes.specs.FileName.{is_file_name_of}
-use Rattle.sve_text.specs.declared.edit.Edit.{Edit}
-use Rattle.sve_text.specs.declared.edit.Edit.TheVariants.{Put}
-use Rattle.sve_text.specs.declared.edit.Mode.TheVariants.{Latest}
-use Rattle.sve_text.specs.declared.edit.TheConstants.{MAX_FILE_LEN}
-use Rattle.sve_text.specs.Files.{EditFits, EditsFit, TextsFit}
-use Rattle.sve_script.specs.declared.commands.Script.{Script}
+use Rattle.serde_json.specs.Find.{as_array, as_object, get_member}
+use Rattle.sve_text.specs.Files.{HaveDistinctNames, TextsFit}
+use Rattle.sve_text.specs.Rows.{IsInLimit}
+use Rattle.sve_text.specs.declared.edit.TheConstants.{MAX_FILE_LEN, MAX_FILES}
+use Rattle.sve_shape.specs.Shapes.{Shaped, under, shaped_map, shaped_then, shaped_of, has_exactly, member_as, items_as, array_as}
 use Rattle.sve_script.specs.declared.commands.Command.{Command}
-use Rattle.sve_script.specs.declared.commands.Command.TheVariants.{Commit, Ask}
-use Rattle.sve_script.specs.declared.commands.Query.{Query}
-use Rattle.sve_script.specs.declared.commands.TheConstants.{MAX_EDITS}
-use Rattle.sve_script.specs.Shapes.{has_exactly, member_as, each_as}
-use Rattle.sve_script.specs.Session.{put_of, edit_with, edit_of, commit_of, commit_with, query_of, ask_of, ask_with, command_with, command_of, client_of, is_in_limits, script_from, file_of, file_with, opening_file_of, script_with, IsSession}
-use Rattle.sve_script.specs.Distinct.{have_distinct_names}
-use Rattle.sve_script.specs.Fits.{CommandFits, ClientsFit}
+use Rattle.sve_script.specs.declared.commands.Script.{Script}
+use Rattle.sve_script.specs.declared.commands.BadSession.{BadSession}
+use Rattle.sve_script.specs.declared.commands.Which.{Which}
+use Rattle.sve_script.specs.declared.commands.Which.TheVariants.{Files, Bytes, Clients, Commands, Edits, Budget}
+use Rattle.sve_script.specs.declared.commands.TheConstants.{MAX_CLIENTS, MAX_COMMANDS, MAX_EDITS}
+use Rattle.sve_script.specs.declared.limits.Beyond.{Beyond}
+use Rattle.sve_script.specs.declared.parts.Parts.{Parts}
+use Rattle.sve_script.specs.Limits.{above, or_else, first_of, edit_count, bad_budget_of, HasFairBudget, long_file, large_commit, first_bad_budget, beyond, limit_of, AreInLimits}
+use Rattle.sve_script.specs.Session.{command_of, some_items, clients_of, files_of, files_as, parts_from, parts_of, within, session_from, session_of}
+use Rattle.sve_script.proofs.Inversions.{then_at, then_ok, map_ok, under_ok, then_branch}
+use Rattle.sve_script.proofs.NewNames.{names_are_new}
 
--- what holds of each thing that is given holds of what a chain gives
-chained : {A B : Type 0} (P : B → Type 0) (f : A → Option B) → ((x : A) (y : B) → f x ≡ Some y → P y) → (o : Option A) (y : B) → option_and_then f o ≡ Some y → P y
-chained P f one None y e = absurd (cc)
-chained P f one (Some x) y e = one x y e
+-- ---- limits
 
--- what a test lets through
-passed : {A : Type 0} (b : Bool) (o : Option A) (y : A) → (if b then o else None) ≡ Some y → (b ≡ true) × (o ≡ Some y)
-passed true o y e = (refl, e)
-passed false o y e = absurd (cc)
-
-mapped : {A : Type 0} (P : A → Type 0) (x : A) (o : Option (List A)) (xs : List A) → P x → ((ys : List A) → o ≡ Some ys → AllByRecursion P ys) → option_map (λ others. x ∷ others) o ≡ Some xs → AllByRecursion P xs
-mapped P x None xs first rest e = absurd (cc)
-mapped P x (Some ys) xs first rest e = subst (AllByRecursion P) (let same : x ∷ ys ≡ xs = cc in same) (first, rest ys refl)
-
-each_fits : {A : Type 0} (P : A → Type 0) (taken : Data → Option A) → ((d : Data) (x : A) → taken d ≡ Some x → P x) → (ds : Items) (xs : List A) → each_as taken ds ≡ Some xs → AllByRecursion P xs
-each_fits P taken one no_items xs e = subst (AllByRecursion P) (let same : [] ≡ xs = cc in same) tt
-each_fits P taken one (item d ds) xs e = at_first (taken d) refl (λ ys e. each_fits P taken one ds ys e) e
+pub at_most_limit : (most number : ℕ) → above most number ≡ None → number ≤ most
+at_most_limit most number none = by_test (nat_le number most) refl none
   where
-    at_first : (o : Option _) → taken d ≡ o → ((ys : List _) → each_as taken ds ≡ Some ys → AllByRecursion P ys) → option_and_then (λ first. option_map (λ others. first ∷ others) (each_as taken ds)) o ≡ Some xs → AllByRecursion P xs
-    at_first None is rest e = absurd (cc)
-    at_first (Some x) is rest e = mapped P x (each_as taken ds) xs (one d x is) rest e
+    by_test : (b : Bool) → nat_le number most ≡ b → (if b then None else Some number) ≡ None → number ≤ most
+    by_test true test none = leb-true number most test
+    by_test false test none = absurd (cc)
 
-abbrev FileFits : List ℕ × List ℕ → Type 0
-FileFits file = length file.1 ≤ MAX_FILE_LEN
+neither : {A : Type 0} (first second : Option A) → or_else first second ≡ None → (first ≡ None) × (second ≡ None)
+neither None second none = (refl, none)
+neither (Some x) second none = absurd (cc)
 
-named_fits : (name text : List ℕ) (f : List ℕ × List ℕ) → file_of name text ≡ Some f → FileFits f
-named_fits name text f is =
-    let p = passed (is_file_name_of name && nat_le (length text) MAX_FILE_LEN) (Some (name, text)) f is in
-    let same : (name, text) ≡ f = cc (p.1) in
-    subst FileFits same (leb-true (length text) MAX_FILE_LEN (and_parts (is_file_name_of name) (nat_le (length text) MAX_FILE_LEN) p.0).1)
+each : {A : Type 0} (P : A → Type 0) (number : A → Option ℕ) → ((x : A) → number x ≡ None → P x) → (xs : List A) → first_of number xs ≡ None → AllByRecursion P xs
+each P number one [] none = tt
+each P number one (x ∷ xs) none =
+    let both = neither (number x) (first_of number xs) none in
+    (one x both.0, each P number one xs both.1)
 
-put_fits : (name text : List ℕ) (e : Edit) → put_of name text ≡ Some e → EditFits e
-put_fits name text e is = at_file (file_of name text) (λ f e. named_fits name text f e) is
-  where
-    at_file : (o : Option (List ℕ × List ℕ)) → ((f : List ℕ × List ℕ) → o ≡ Some f → FileFits f) → option_map (λ f. Put f.0 f.1) o ≡ Some e → EditFits e
-    at_file None fits is = absurd (cc)
-    at_file (Some f) fits is = subst EditFits (let same : Put f.0 f.1 ≡ e = cc in same) (fits f refl)
+pub each_has : {A : Type 0} (P : A → Type 0) (number : A → Option ℕ) → ((x : A) → number x ≡ None → P x) → (xs : List A) → first_of number xs ≡ None → All P xs
+each_has P number one xs none = All-from_recursion P xs (each P number one xs none)
 
-edit_fits : (d : Data) (e : Edit) → edit_of d ≡ Some e → EditFits e
-edit_fits d e is = chained EditFits edit_with (λ ms e is. members_fit ms e (passed (has_exactly (codes "put" ∷ codes "text" ∷ []) ms) _ e is).1) (as_object d) e is
-  where
-    members_fit : (ms : Members) (e : Edit) → option_and_then (λ name. option_and_then (put_of name) (member_as as_str (codes "text") ms)) (member_as as_str (codes "put") ms) ≡ Some e → EditFits e
-    members_fit ms e is = chained EditFits _ (λ name e is. chained EditFits (put_of name) (put_fits name) (member_as as_str (codes "text") ms) e is) (member_as as_str (codes "put") ms) e is
+not_beyond : (which : Which) (number : Option ℕ) (rest : Option Beyond) → beyond which number rest ≡ None → (number ≡ None) × (rest ≡ None)
+not_beyond which None rest none = (refl, none)
+not_beyond which (Some number) rest none = absurd (cc)
 
-edits_fit : (ds : Items) (es : List Edit) → each_as edit_of ds ≡ Some es → EditsFit es
-edits_fit ds es is = All-from_recursion EditFits es (each_fits EditFits edit_of edit_fits ds es is)
+pub record IsInLimits (files : List (List ℕ × List ℕ)) (clients : List (List Command)) : Type 0 where
+  pub texts : TextsFit files
+  pub few_clients : length clients ≤ MAX_CLIENTS
+  pub few_commands : sum_by length clients ≤ MAX_COMMANDS
+  pub few_edits : All (λ commands. All (λ command. edit_count command ≤ MAX_EDITS) commands) clients
+  pub fair_budgets : All (λ commands. All HasFairBudget commands) clients
 
-commit_fits : (ms : Members) (c : Command) → commit_with ms ≡ Some c → CommandFits c
-commit_fits ms c is = at_edits (option_and_then (each_as edit_of) (member_as as_array (codes "commit") ms)) (λ es e. chained EditsFit (each_as edit_of) edits_fit (member_as as_array (codes "commit") ms) es e) is
-  where
-    at_edits : (o : Option (List Edit)) → ((es : List Edit) → o ≡ Some es → EditsFit es) → option_and_then commit_of o ≡ Some c → CommandFits c
-    at_edits None fits e = absurd (cc)
-    at_edits (Some es) fits e =
-        let p = passed (nat_le (length es) MAX_EDITS) (Some (Commit es)) c e in
-        subst CommandFits (let same : Commit es ≡ c = cc (p.1) in same) (fits es refl)
+pub in_limits : (files : List (List ℕ × List ℕ)) (clients : List (List Command)) → limit_of files clients ≡ None → IsInLimits files clients
+in_limits files clients none =
+    let a = not_beyond Files (above MAX_FILES (length files)) _ none in
+    let b = not_beyond Bytes (long_file files) _ a.1 in
+    let c = not_beyond Clients (above MAX_CLIENTS (length clients)) _ b.1 in
+    let d = not_beyond Commands (above MAX_COMMANDS (sum_by length clients)) _ c.1 in
+    let e = not_beyond Edits (large_commit clients) _ d.1 in
+    let f = not_beyond Budget (first_bad_budget clients) None e.1 in
+    record {
+      texts = each_has (λ (file : List ℕ × List ℕ). IsInLimit file.1) (λ file. above MAX_FILE_LEN (length file.1)) (λ file e. at_most_limit MAX_FILE_LEN (length file.1) e) files b.0;
+      few_clients = at_most_limit MAX_CLIENTS (length clients) c.0;
+      few_commands = at_most_limit MAX_COMMANDS (sum_by length clients) d.0;
+      few_edits = each_has (λ (commands : List Command). All (λ command. edit_count command ≤ MAX_EDITS) commands) (first_of (λ command. above MAX_EDITS (edit_count command))) (λ commands e. each_has (λ (command : Command). edit_count command ≤ MAX_EDITS) (λ command. above MAX_EDITS (edit_count command)) (λ command e. at_most_limit MAX_EDITS (edit_count command) e) commands e) clients e.0;
+      fair_budgets = each_has (λ (commands : List Command). All HasFairBudget commands) (first_of bad_budget_of) (λ commands e. each_has HasFairBudget bad_budget_of (λ command e. e) commands e) clients f.0;
+    }
 
-query_fits : (o : Option Query) (c : Command) → option_map (λ query. Ask query Latest None) o ≡ Some c → CommandFits c
-query_fits None c is = absurd (cc)
-query_fits (Some query) c is = subst CommandFits (let same : Ask query Latest None ≡ c = cc in same) tt
+-- ---- parts
 
-ask_fits : (ms : Members) (c : Command) → ask_with ms ≡ Some c → CommandFits c
-ask_fits ms c is = members_fit (passed (has_exactly (codes "ask" ∷ codes "name" ∷ []) ms) _ c is).1
-  where
-    name_fits : (ask name : List ℕ) (c : Command) → ask_of ask name ≡ Some c → CommandFits c
-    name_fits ask name c is = query_fits (query_of ask name) c is
+some_are_read : {A : Type 0} (taken : Data → Shaped A) (items : Items) (xs : List A) → shaped_then (items_as taken 0) (some_items items) ≡ Ok xs → 1 ≤ length xs
+some_are_read taken no_items xs is = absurd (cc)
+some_are_read taken (item d ds) xs is =
+    let first = then_ok (λ first. shaped_map (λ others. first ∷ others) (items_as taken (0 + 1) ds)) (under (decimal 0) (taken d)) xs is in
+    let rest = map_ok (λ (others : List _). first.0 ∷ others) (items_as taken (0 + 1) ds) xs first.2 in
+    subst (λ (ys : List _). 1 ≤ length ys) rest.2 (omega arith)
 
-    members_fit : option_and_then (λ ask. option_and_then (ask_of ask) (member_as as_str (codes "name") ms)) (member_as as_str (codes "ask") ms) ≡ Some c → CommandFits c
-    members_fit is = chained CommandFits _ (λ ask c is. chained CommandFits (ask_of ask) (name_fits ask) (member_as as_str (codes "name") ms) c is) (member_as as_str (codes "ask") ms) c is
+pub record AreFair (parts : Parts) : Type 0 where
+  pub distinct_names : HaveDistinctNames parts.files
+  pub some_client : 1 ≤ length parts.clients
 
--- what one of two choices gives
-either : {A : Type 0} (P : A → Type 0) (b : Bool) (o p : Option A) (y : A) → (o ≡ Some y → P y) → (p ≡ Some y → P y) → (if b then o else p) ≡ Some y → P y
-either P true o p y first second e = first e
-either P false o p y first second e = second e
+pub parts_are_fair : (value : Data) (parts : Parts) → parts_of value ≡ Ok parts → AreFair parts
+parts_are_fair value parts is =
+    let object = then_ok parts_from (shaped_of (as_object value)) parts is in
+    let ms : Members = object.0 in
+    let both = then_branch (has_exactly (codes "files" ∷ codes "clients" ∷ []) ms) _ [] parts object.2 in
+    let files = then_ok (λ files. shaped_map (λ clients. record { files = files; clients = clients }) (member_as clients_of (codes "clients") ms)) (member_as files_of (codes "files") ms) parts both.1 in
+    let clients = map_ok (λ (clients : List (List Command)). let made : Parts = record { files = files.0; clients = clients } in made) (member_as clients_of (codes "clients") ms) parts files.2 in
+    let file_value = then_ok files_of (shaped_of (get_member (codes "files") ms)) files.0 (under_ok (codes "files") _ files.0 files.1) in
+    let file_items = then_ok (files_as (λ name. false) 0) (shaped_of (as_array file_value.0)) files.0 file_value.2 in
+    let client_value = then_ok clients_of (shaped_of (get_member (codes "clients") ms)) clients.0 (under_ok (codes "clients") _ clients.0 clients.1) in
+    let client_items = then_ok (items_as (array_as command_of) 0) (shaped_then some_items (shaped_of (as_array client_value.0))) clients.0 client_value.2 in
+    let items = then_ok some_items (shaped_of (as_array client_value.0)) client_items.0 client_items.1 in
+    subst AreFair clients.2
+    (record {
+      distinct_names = (names_are_new (λ name. false) 0 file_items.0 files.0 file_items.2).1;
+      some_client = some_are_read (array_as command_of) items.0 clients.0 (then_at (items_as (array_as command_of) 0) (some_items items.0) client_items.0 clients.0 items.2 client_items.2);
+    })
 
-command_fits : (d : Data) (c : Command) → command_of d ≡ Some c → CommandFits c
-command_fits d c is = chained CommandFits command_with (λ ms c is. either CommandFits (has_exactly (codes "commit" ∷ []) ms) (commit_with ms) (ask_with ms) c (commit_fits ms c) (ask_fits ms c) is) (as_object d) c is
+-- ---- sessions
 
-client_fits : (d : Data) (cs : List Command) → client_of d ≡ Some cs → All CommandFits cs
-client_fits d cs is = chained (All CommandFits) (each_as command_of) (λ ds cs is. All-from_recursion CommandFits cs (each_fits CommandFits command_of command_fits ds cs is)) (as_array d) cs is
+within_fits : (parts : Parts) (limit : Option Beyond) → limit_of parts.files parts.clients ≡ limit → AreFair parts → IfOk (within parts limit) (λ script. AreInLimits script.clients)
+within_fits parts (Some beyond) is fair = tt
+within_fits parts None is fair =
+    let limits = in_limits parts.files parts.clients is in
+    record { some_client = fair.some_client; few_clients = limits.few_clients; few_commands = limits.few_commands; few_edits = limits.few_edits; fair_budgets = limits.fair_budgets }
 
-clients_fit : (ds : Items) (css : List (List Command)) → each_as client_of ds ≡ Some css → ClientsFit css
-clients_fit ds css is = All-from_recursion (All CommandFits) css (each_fits (All CommandFits) client_of client_fits ds css is)
+parts_fit : (value : Data) (shaped : Shaped Parts) → parts_of value ≡ shaped → IfOk (session_from shaped) (λ script. AreInLimits script.clients)
+parts_fit value (Err path) is = tt
+parts_fit value (Ok parts) is = within_fits parts (limit_of parts.files parts.clients) refl (parts_are_fair value parts is)
 
-abbrev Fitting : Script → Type 0
-Fitting script = (length script.clients ≡ 1) × ClientsFit script.clients
-
-with_clients : (files : List (List ℕ × List ℕ)) (css : List (List Command)) (script : Script) → ClientsFit css → script_from files css ≡ Some script → Fitting script
-with_clients files css script fits is =
-    let p = passed (have_distinct_names files && is_in_limits files css) _ script is in
-    let limits = and_parts _ _ (and_parts _ _ (and_parts (have_distinct_names files) (is_in_limits files css) p.0).1).0 in
-    let same : css ≡ script.clients = cc (p.1) in
-    subst (λ (c : List (List Command)). (length c ≡ 1) × ClientsFit c) same (eqb-true (length css) 1 limits.0, fits)
-
-at_clients : (files : List (List ℕ × List ℕ)) (o : Option (List (List Command))) (script : Script) → ((css : List (List Command)) → o ≡ Some css → ClientsFit css) → option_and_then (script_from files) o ≡ Some script → Fitting script
-at_clients files None script fits e = absurd (cc)
-at_clients files (Some css) script fits e = with_clients files css script (fits css refl) e
-
-with_members : (ms : Members) (script : Script) → script_with ms ≡ Some script → Fitting script
-with_members ms script is =
-    chained Fitting _
-    (λ files script is.
-    at_clients files (option_and_then (each_as client_of) (member_as as_array (codes "clients") ms)) script
-    (λ css e. chained ClientsFit (each_as client_of) clients_fit (member_as as_array (codes "clients") ms) css e)
-    is)
-    (option_and_then (each_as opening_file_of) (member_as as_array (codes "files") ms)) script (passed (has_exactly (codes "files" ∷ codes "clients" ∷ []) ms) _ script is).1
-
-pub session_fits : (bytes : List ℕ) (script : Script) → IsSession bytes script → (length script.clients ≡ 1) × ClientsFit script.clients
-session_fits bytes script session = chained Fitting script_with with_members (as_object session.0) script session.2
-
--- ---- opening files
-
-file_fits : (d : Data) (f : List ℕ × List ℕ) → opening_file_of d ≡ Some f → FileFits f
-file_fits d f is = chained FileFits file_with (λ ms f is. members_fit ms f (passed (has_exactly (codes "name" ∷ codes "text" ∷ []) ms) _ f is).1) (as_object d) f is
-  where
-    members_fit : (ms : Members) (f : List ℕ × List ℕ) → option_and_then (λ name. option_and_then (file_of name) (member_as as_str (codes "text") ms)) (member_as as_str (codes "name") ms) ≡ Some f → FileFits f
-    members_fit ms f is = chained FileFits _ (λ name f is. chained FileFits (file_of name) (named_fits name) (member_as as_str (codes "text") ms) f is) (member_as as_str (codes "name") ms) f is
-
-pub opening_files_fit : (ds : Items) (fs : List (List ℕ × List ℕ)) → each_as opening_file_of ds ≡ Some fs → TextsFit fs
-opening_files_fit ds fs is = All-from_recursion FileFits fs (each_fits FileFits opening_file_of file_fits ds fs is)
+pub session_fits : (value : Data) (read : Result Script BadSession) → read ≡ session_of value → IfOk read (λ script. AreInLimits script.clients)
+session_fits value read is = subst (λ (r : Result Script BadSession). IfOk r (λ script. AreInLimits script.clients)) (sym is) (parts_fit value (parts_of value) refl)

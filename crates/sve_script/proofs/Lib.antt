@@ -1,5 +1,4 @@
-pub mod DistinctNames
-pub mod EachItem
-pub mod ManyMembers
-pub mod Readings
+pub mod Inversions
+pub mod NewNames
 pub mod Fitting
+pub mod Readings

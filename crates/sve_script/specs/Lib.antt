@@ -1,5 +1,4 @@
-pub mod Shapes
-pub mod Distinct
+pub mod Drafts
+pub mod Limits
 pub mod Session
 pub mod OneReading
-pub mod Fits

@@ -1,317 +1,92 @@
-//! Reading a session: one function for each part of its form, over the value that the bytes have as JSON.
-ghost use Rattle.std.specs.Prelude.{◌≡◌, ◌+◌, IfOk, IsErrOf, length, nat_le, sum_by};
-ghost use Rattle.serde_json.specs.View.{view, items_view, members_view};
-ghost use Rattle.sve_script.specs.Shapes.{each_as};
-ghost use Rattle.sve_text.specs.Files.{TextsFit};
-ghost use Rattle.sve_script.specs.Distinct.{have_distinct_names};
-ghost use Rattle.sve_script.specs.Fits.{ClientsFit};
-ghost use Rattle.sve_script.specs.Session.{IsSession, IsLater, IsNotJson, put_of, edit_with, edit_of, commit_with, query_of, ask_with, command_with, command_of, client_of, edit_count, file_of, opening_file_of, is_in_limits, script_from, script_with, script_of};
+//! Reading a session.
+ghost use Rattle.std.specs.Prelude.{◌≡◌, ℕ, List, All, None, IfOk, IsErrOf};
+ghost use Rattle.serde_json.specs.View.{view};
+ghost use Rattle.sve_text.specs.Files.{HaveDistinctNames, opening_files};
+ghost use Rattle.sve_script.specs.declared.commands.Which.{Which};
+ghost use Rattle.sve_script.specs.Limits.{HasFairBudget, AreInLimits, limit_of};
+ghost use Rattle.sve_script.specs.Session.{within, session_of, IsSession, IsMisshapen, IsBeyondLimit, IsNotJson};
 
-use crate::commands::{BadSession, Command, MAX_COMMANDS, MAX_EDITS, MAX_FILES, Query, Script};
-use crate::member::{Object, has_both, has_only, items_under, text_under};
+use crate::commands::{BadSession, Command, Script};
+use crate::drafts::Draft;
+use crate::limits::{Beyond, limit};
+use crate::parts::{Parts, parts_read};
 use serde_json::Value;
 use std::alloc::{AllocError, Global};
-use std::collections::BTreeSet;
-use sve_bytes::{List, Name};
-use sve_text::{Edit, Files, MAX_FILE_LEN, Mode, Text, file_name};
+use sve_bytes::List;
+use sve_text::Files;
 
-/// What a part of a session is taken for: `None` where it is not of the form, and an error only for want of memory.
-type Taken<T> = Result<Option<T>, AllocError>;
-
-/// A file of this name and text. The text is copied once, from the string, and shared from then on.
-fn file(alloc: Global, name: &str, text: &str) -> Taken<(Name, Text)>
-    ensures { IfOk result (λ o. o ≡ file_of name.now text.now) }
-{
-    if text.len() > MAX_FILE_LEN {
-        return Ok(None);
-    }
-    let Some(name) = file_name(alloc, name.as_bytes())? else {
-        return Ok(None);
-    };
-    let bytes = List::of(Vec::from_slice(alloc, text.as_bytes())?);
-    Ok(Some((name, Text::of(alloc, bytes)?)))
-}
-
-/// The edit `{"put": name, "text": text}`.
-fn put(alloc: Global, name: &str, text: &str) -> Taken<Edit>
-    ensures { IfOk result (λ o. o ≡ put_of name.now text.now) }
-{
-    match file(alloc, name, text)? {
-        Some((name, text)) => Ok(Some(Edit::Put { name, text })),
-        None => Ok(None),
-    }
-}
-
-/// One edit of a commit.
-fn edit(alloc: Global, value: &Value) -> Taken<Edit>
-    ensures { IfOk result (λ o. o ≡ edit_of (view value.now)) }
-{
-    let Some(members) = value.as_object() else {
-        return Ok(None);
-    };
-    if !has_both(members, "put", "text") {
-        return Ok(None);
-    }
-    match (text_under(members, "put"), text_under(members, "text")) {
-        (Some(name), Some(text)) => put(alloc, name, text),
-        _ => Ok(None),
-    }
-}
-
-/// Edits, in their order.
-fn edits(alloc: Global, items: &[Value]) -> Taken<List<Edit>>
-    ensures { IfOk result (λ o. o ≡ each_as edit_of (items_view items.now)) }
-{
-    let mut edits = Vec::new(alloc);
-    for item in items {
-        match edit(alloc, item)? {
-            Some(edit) => edits.push(edit)?,
-            None => return Ok(None),
-        }
-    }
-    Ok(Some(List::of(edits)))
-}
-
-/// The command `{"commit": [edit, ..]}`, of members that are this one alone.
-fn commit(alloc: Global, members: &Object) -> Taken<Command>
-    ensures { IfOk result (λ o. o ≡ commit_with (members_view members.now.entries)) }
-{
-    let Some(items) = items_under(members, "commit") else {
-        return Ok(None);
-    };
-    match edits(alloc, items)? {
-        Some(edits) if edits.items().len() <= MAX_EDITS => Ok(Some(Command::Commit(edits))),
-        _ => Ok(None),
-    }
-}
-
-/// The query that a word says, `file` or `expand`. Any string may be the name, also one that no file can have.
-fn query(alloc: Global, ask: &str, name: &str) -> Taken<Query>
-    ensures { IfOk result (λ o. o ≡ query_of ask.now name.now) }
-{
-    match ask {
-        "file" => Ok(Some(Query::File {
-            name: List::of(Vec::from_slice(alloc, name.as_bytes())?),
-        })),
-        "expand" => Ok(Some(Query::Expand {
-            name: List::of(Vec::from_slice(alloc, name.as_bytes())?),
-        })),
-        _ => Ok(None),
-    }
-}
-
-/// The command `{"ask": word, "name": name}`.
-fn ask(alloc: Global, members: &Object) -> Taken<Command>
-    ensures { IfOk result (λ o. o ≡ ask_with (members_view members.now.entries)) }
-{
-    if !has_both(members, "ask", "name") {
-        return Ok(None);
-    }
-    let (Some(word), Some(name)) = (text_under(members, "ask"), text_under(members, "name")) else {
-        return Ok(None);
-    };
-    match query(alloc, word, name)? {
-        Some(query) => Ok(Some(Command::Ask {
-            query,
-            mode: Mode::Latest,
-            budget: None,
-        })),
-        None => Ok(None),
-    }
-}
-
-/// One command of a client.
-fn command(alloc: Global, value: &Value) -> Taken<Command>
-    ensures { IfOk result (λ o. o ≡ command_of (view value.now)) }
-{
-    match value.as_object() {
-        Some(members) if has_only(members, "commit") => commit(alloc, members),
-        Some(members) => ask(alloc, members),
-        None => Ok(None),
-    }
-}
-
-/// Commands, in their order.
-fn commands(alloc: Global, items: &[Value]) -> Taken<List<Command>>
-    ensures { IfOk result (λ o. o ≡ each_as command_of (items_view items.now)) }
+/// The commands of one client, whose budgets are those that an ask may have.
+fn settled_client(alloc: Global, drafts: List<Draft>) -> Result<List<Command>, AllocError>
+    requires { All HasFairBudget drafts }
+    ensures { IfOk result (λ commands. commands ≡ drafts) }
 {
     let mut commands = Vec::new(alloc);
-    for item in items {
-        match command(alloc, item)? {
-            Some(command) => commands.push(command)?,
-            None => return Ok(None),
-        }
+    for draft in drafts.into_vec() {
+        commands.push(draft.settled())?;
     }
-    Ok(Some(List::of(commands)))
+    Ok(List::of(commands))
 }
 
-/// The commands of one client.
-fn client(alloc: Global, value: &Value) -> Taken<List<Command>>
-    ensures { IfOk result (λ o. o ≡ client_of (view value.now)) }
-{
-    match value.as_array() {
-        Some(items) => commands(alloc, items),
-        None => Ok(None),
-    }
-}
-
-/// The commands of each client, client 1 first.
-fn clients_in(alloc: Global, items: &[Value]) -> Taken<List<List<Command>>>
-    ensures { IfOk result (λ o. o ≡ each_as client_of (items_view items.now)) }
+/// The commands of each client, whose budgets are those that an ask may have.
+fn settled_clients(
+    alloc: Global,
+    drafts: List<List<Draft>>,
+) -> Result<List<List<Command>>, AllocError>
+    requires { All (All HasFairBudget) drafts }
+    ensures { IfOk result (λ clients. clients ≡ drafts) }
 {
     let mut clients = Vec::new(alloc);
-    for item in items {
-        match client(alloc, item)? {
-            Some(client) => clients.push(client)?,
-            None => return Ok(None),
-        }
+    for client in drafts.into_vec() {
+        clients.push(settled_client(alloc, client)?)?;
     }
-    Ok(Some(List::of(clients)))
+    Ok(List::of(clients))
 }
 
-/// How many edits a command has.
-fn count_edits(command: &Command) -> usize
-    ensures { result ≡ edit_count command.now }
+/// A session, or why a value is none.
+type Read = Result<Result<Script, BadSession>, AllocError>;
+
+/// The session of these parts, which are in their limits.
+fn made(alloc: Global, parts: Parts) -> Result<Script, AllocError>
+    requires distinct_names { HaveDistinctNames parts.files }
+    requires limits_kept { limit_of parts.files parts.clients ≡ None }
+    ensures { IfOk result (λ script. script ≡ record { files = opening_files parts.files; clients = parts.clients }) }
 {
-    match command {
-        Command::Commit(edits) => edits.items().len(),
-        Command::Ask { .. } => 0,
-    }
+    let clients = settled_clients(alloc, parts.clients)?;
+    let files = Files::of(alloc, parts.files.into_vec())?;
+    Ok(Script { files, clients })
 }
 
-/// Whether the commands have together no more edits, beside so many opening files, than a session may have files.
-fn has_few_edits(files: usize, commands: &[Command]) -> bool
-    ensures { result ≡ nat_le (files + sum_by edit_count commands.now) MAX_FILES }
+/// The session of these parts, where they are in their limits.
+fn settled(alloc: Global, parts: Parts) -> Read
+    requires { HaveDistinctNames parts.files }
+    ensures { IfOk result (λ read. read ≡ within parts (limit_of parts.files parts.clients)) }
 {
-    if files > MAX_FILES {
-        return false;
+    match limit(parts.files.items(), parts.clients.items())? {
+        Some(Beyond { which, number }) => Ok(Err(BadSession::Limit { which, number })),
+        None => Ok(Ok(made(alloc, parts)?)),
     }
-    let mut left = MAX_FILES - files;
-    for command in commands {
-        let count = count_edits(command);
-        if count > left {
-            return false;
-        }
-        left -= count;
-    }
-    true
-}
-
-/// Whether there is one client, with no more commands, and no more edits beside so many opening files, than a session
-/// may have.
-fn are_in_limits(files: &[(Name, Text)], clients: &[List<Command>]) -> bool
-    ensures { result ≡ is_in_limits files.now clients.now }
-{
-    match clients {
-        [client] => {
-            client.items().len() <= MAX_COMMANDS && has_few_edits(files.len(), client.items())
-        }
-        _ => false,
-    }
-}
-
-/// One file before the first commit.
-fn opening_file(alloc: Global, value: &Value) -> Taken<(Name, Text)>
-    ensures { IfOk result (λ o. o ≡ opening_file_of (view value.now)) }
-{
-    let Some(members) = value.as_object() else {
-        return Ok(None);
-    };
-    if !has_both(members, "name", "text") {
-        return Ok(None);
-    }
-    match (text_under(members, "name"), text_under(members, "text")) {
-        (Some(name), Some(text)) => file(alloc, name, text),
-        _ => Ok(None),
-    }
-}
-
-/// Files before the first commit, in their order.
-fn opening_files(alloc: Global, items: &[Value]) -> Taken<List<(Name, Text)>>
-    ensures { IfOk result (λ o. o ≡ each_as opening_file_of (items_view items.now)) }
-{
-    let mut files = Vec::new(alloc);
-    for item in items {
-        match opening_file(alloc, item)? {
-            Some(file) => files.push(file)?,
-            None => return Ok(None),
-        }
-    }
-    Ok(Some(List::of(files)))
-}
-
-/// The session with these members.
-fn session_with(alloc: Global, members: &Object) -> Taken<Script>
-    ensures { IfOk result (λ o. o ≡ script_with (members_view members.now.entries)) }
-{
-    if !has_both(members, "files", "clients") {
-        return Ok(None);
-    }
-    let (Some(files), Some(clients)) = (
-        items_under(members, "files"),
-        items_under(members, "clients"),
-    ) else {
-        return Ok(None);
-    };
-    let Some(files) = opening_files(alloc, files)? else {
-        return Ok(None);
-    };
-    let Some(clients) = clients_in(alloc, clients)? else {
-        return Ok(None);
-    };
-    session_from(alloc, files, clients)
-}
-
-/// The session with these opening files and clients.
-fn session_from(
-    alloc: Global,
-    files: List<(Name, Text)>,
-    clients: List<List<Command>>,
-) -> Taken<Script>
-    requires { TextsFit files }
-    ensures { IfOk result (λ o. o ≡ script_from files clients) }
-{
-    if !are_distinct(alloc, files.items())? || !are_in_limits(files.items(), clients.items()) {
-        return Ok(None);
-    }
-    Ok(Some(Script {
-        files: Files::of(alloc, files.into_vec())?,
-        clients,
-    }))
-}
-
-/// Whether no two files have one name.
-fn are_distinct(alloc: Global, files: &[(Name, Text)]) -> Result<bool, AllocError>
-    ensures { IfOk result (λ are. are ≡ have_distinct_names files.now) }
-{
-    let mut seen = BTreeSet::new(alloc);
-    for file in files {
-        if !seen.insert(file.0.copy()?)? {
-            return Ok(false);
-        }
-    }
-    Ok(true)
 }
 
 /// The session that a value is.
-fn session(alloc: Global, value: &Value) -> Taken<Script>
-    ensures { IfOk result (λ o. o ≡ script_of (view value.now)) }
+fn session(alloc: Global, value: &Value) -> Read
+    ensures { IfOk result (λ read. read ≡ session_of (view value.now)) }
 {
-    match value.as_object() {
-        Some(members) => session_with(alloc, members),
-        None => Ok(None),
+    match parts_read(alloc, value)? {
+        Ok(parts) => settled(alloc, parts),
+        Err(path) => Ok(Err(BadSession::Shape { path })),
     }
 }
 
 /// Reads a session.
 ///
 /// # Errors
-/// `NotJson` where the bytes are no JSON, `Later` where they are JSON and no session of the form that is read.
+/// `NotJson` where the bytes are no JSON, `Shape` where they are JSON and not of the form of a session, `Limit` where they
+/// are of the form and beyond a limit.
 pub fn script(alloc: Global, bytes: &[u8]) -> Result<Script, BadSession>
     ensures session { IfOk result (IsSession bytes.now) }
-    ensures one_client { IfOk result (λ s. length s.clients ≡ 1) }
-    ensures texts_fit { IfOk result (λ s. ClientsFit s.clients) }
-    ensures later { IsErrOf result BadSession.Later → IsLater bytes.now }
+    ensures limits_kept { IfOk result (λ script. AreInLimits script.clients) }
+    ensures shape { (path : List ℕ) → IsErrOf result (BadSession.Shape path) → IsMisshapen bytes.now path }
+    ensures limit { (which : Which) → (number : ℕ) → IsErrOf result (BadSession.Limit which number) → IsBeyondLimit bytes.now which number }
     ensures not_json { IsErrOf result BadSession.NotJson → IsNotJson bytes.now }
 {
     let value = match Value::from_slice(alloc, bytes) {
@@ -320,8 +95,7 @@ pub fn script(alloc: Global, bytes: &[u8]) -> Result<Script, BadSession>
         Err(_) => return Err(BadSession::NotJson),
     };
     match session(alloc, &value) {
-        Ok(Some(script)) => Ok(script),
-        Ok(None) => Err(BadSession::Later),
+        Ok(read) => read,
         Err(AllocError) => Err(BadSession::NoMemory),
     }
 }

@@ -1,9 +1,10 @@
 -- How a call ends, from its output and what was written of it.
-use Rattle.std.proofs.Common.{◌≡◌, ℕ, inl, inr, List, sym, subst}
+use Rattle.std.proofs.Common.{◌≡◌, ℕ, inl, inr, List, Result, Ok, Err, IfOk, sym, subst}
 use Rattle.sve_serve.specs.declared.status.Status.{Status}
 use Rattle.sve_serve.specs.declared.status.Status.TheVariants.{Done, Usage, BadSession, ReadFault, WriteFault, TooLarge, NoMemory}
 use Rattle.sve_serve.specs.Endings.{Seen, IsReadWhole, IsOutputForRead, IsWrittenOrCutShort, HasWrittenOutput, Ends}
-use Rattle.sve_serve.specs.Runs.{IsOutputForSession}
+use Rattle.sve_serve.specs.declared.serving.Reply.{Reply}
+use Rattle.sve_serve.specs.Runs.{IsRefusalOf, IsOutputForSession}
 use Rattle.sve_serve.specs.Words.{run, spoken}
 
 written_ends : (words : List (List ℕ)) (unread unwritten : Type 0) (s s' k k' : Seen) (status : Status) (text : List ℕ) → IsOutputForRead words unread s s' status text → HasWrittenOutput words unread s s' k k' status → Ends words unread unwritten s s' k k' status
@@ -28,3 +29,9 @@ session_output words unread s s' bytes TooLarge text asked whole reply = absurd 
 session_output words unread s s' bytes ReadFault text asked whole reply = absurd reply
 session_output words unread s s' bytes WriteFault text asked whole reply = absurd reply
 session_output words unread s s' bytes NoMemory text asked whole reply = absurd reply
+
+-- a line that refuses the bytes is the output for them
+pub refused_output : {E : Type 0} (bytes text : List ℕ) (r : Result Reply E) → IfOk r (λ reply. (reply.status ≡ BadSession) × (reply.text.items ≡ text)) → IsRefusalOf bytes text
+    → IfOk r (λ reply. IsOutputForSession bytes reply.status reply.text.items)
+refused_output bytes text (Ok reply) h is = subst (λ (s : Status). IsOutputForSession bytes s reply.text.items) (sym h.0) (subst (IsRefusalOf bytes) (sym h.1) is)
+refused_output bytes text (Err e) h is = tt

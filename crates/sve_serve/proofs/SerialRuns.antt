@@ -1,35 +1,45 @@
 -- The run of one client's commands, each at the newest revision, gives a history and honest records.
-use Rattle.std.proofs.Common.{◌≡◌, ℕ, ◌+◌, ◌-◌, ◌<◌, ◌≤◌, max, Bool, true, false, List, [], ◌∷◌, ◌++◌, length, take, map, filter, nat_eq, Option, Some, slice_get, slice_index_or, get_or, All, unwrap_or, if◌then◌else◌, IsTrue, refl, ap, sym, ◌∙◌, subst, arith, append_assoc, length-append}
+use Rattle.std.proofs.Common.{◌≡◌, ℕ, ◌+◌, ◌-◌, ◌<◌, ◌≤◌, max, true, false, ◌&&◌, List, [], ◌∷◌, ◌++◌, length, take, map, filter, nat_eq, Option, Some, None, slice_get, slice_index_or, get_or, option_map, unwrap_or, if◌then◌else◌, IsTrue, refl, ap, sym, ◌∙◌, subst, arith, append_assoc, length-append}
 use Rattle.std.proofs.lemmas.List.{append-nil}
-use Rattle.std.proofs.lemmas.Bool.{le-ltb}
-use Rattle.std.proofs.lemmas.List.Elements.{recursion_from_All}
 use Rattle.std.proofs.Math.Seq.{take-append_seam}
-use Rattle.std.specs.List.{AllByRecursion}
+use Rattle.std.specs.List.{AllByRecursion, list_all}
 use Rattle.sve_text.specs.declared.edit.Edit.{Edit}
-use Rattle.sve_text.specs.Files.{FilesValue, files_after, EditsFit}
+use Rattle.sve_text.specs.declared.why.Refusal.{Refusal}
+use Rattle.sve_text.specs.Files.{FilesValue, files_after}
+use Rattle.sve_text.specs.Refusals.{refusal_of}
 use Rattle.sve_script.specs.declared.commands.Script.{Script}
 use Rattle.sve_script.specs.declared.commands.Command.{Command}
 use Rattle.sve_script.specs.declared.commands.Command.TheVariants.{Commit, Ask}
-use Rattle.sve_script.specs.declared.commands.Query.{Query}
-use Rattle.sve_script.specs.declared.commands.Query.TheVariants.{File, Expand}
-use Rattle.sve_script.specs.Fits.{CommandFits, ClientsFit}
 use Rattle.sve_report.specs.declared.entry.Entry.{Entry}
 use Rattle.sve_report.specs.declared.record.Record.{Record}
-use Rattle.sve_serve.specs.Answers.{answer, lines_of, Done, Spent}
+use Rattle.sve_serve.specs.Answers.{IsOutcome, Done}
 use Rattle.sve_serve.specs.Histories.{Table, edits_of, files_from, AreMet, RisesFrom, commands_of}
-use Rattle.sve_serve.specs.Honest.{command_in, edits_in, edits_in_command, session_files, IsOfSession, Walks, accepted_from, AreHonestFrom, Honest, default_budget, is_commit}
+use Rattle.sve_serve.specs.Honest.{command_in, edits_in, edits_in_command, session_files, IsOfSession, IsHonest, Walks, front_after, accepted_from, AreHonestFrom, Honest, default_budget, is_commit}
 use Rattle.sve_serve.specs.Revisions.{Revisions}
-use Rattle.sve_serve.specs.Serial.{entry_of, revisions_after, records_after, revisions_after_one}
+use Rattle.sve_serve.specs.Unbuilt.{is_built_command, first_unbuilt, ask_path, first_later}
+use Rattle.sve_serve.specs.Serial.{committed, commit_record, entry_of, revisions_after, AreTold}
+
+-- the entries with this one before them, where its commit is not refused
+abbrev entered : Option Refusal → Entry → List Entry → List Entry
+entered None e es = e ∷ es
+entered (Some refusal) e es = es
 
 -- the entries that the commands of client 1 make, from number j on
-abbrev pub new_entries : ℕ → List Command → List Entry
-new_entries j [] = []
-new_entries j (Commit edits ∷ commands) = entry_of 1 j ∷ new_entries (j + 1) commands
-new_entries j (Ask query mode budget ∷ commands) = new_entries (j + 1) commands
+abbrev pub new_entries : Revisions → ℕ → List Command → List Entry
+new_entries h j [] = []
+new_entries h j (Commit edits ∷ commands) = entered (refusal_of h.newest edits) (entry_of 1 j) (new_entries (committed h (entry_of 1 j) edits (refusal_of h.newest edits)) (j + 1) commands)
+new_entries h j (Ask query mode budget ∷ commands) = new_entries h (j + 1) commands
 
-pub entries-revisions_after : (h : Revisions) (j : ℕ) (commands : List Command) → (revisions_after h 1 j commands).entries ≡ h.entries ++ new_entries j commands
+-- an entry goes from what is made later to what is made by now
+entered_moves : (h : Revisions) (e : Entry) (edits : List Edit) (r : Option Refusal) (es : List Entry) → (committed h e edits r).entries ++ es ≡ h.entries ++ entered r e es
+entered_moves h e edits None es = append_assoc h.entries (e ∷ []) es
+entered_moves h e edits (Some refusal) es = refl
+
+pub entries-revisions_after : (h : Revisions) (j : ℕ) (commands : List Command) → (revisions_after h 1 j commands).entries ≡ h.entries ++ new_entries h j commands
 entries-revisions_after h j [] = sym (append-nil h.entries)
-entries-revisions_after h j (Commit edits ∷ commands) = entries-revisions_after (revisions_after_one h (entry_of 1 j) (Commit edits)) (j + 1) commands ∙ append_assoc h.entries (entry_of 1 j ∷ []) (new_entries (j + 1) commands)
+entries-revisions_after h j (Commit edits ∷ commands) =
+    let r = refusal_of h.newest edits in
+    entries-revisions_after (committed h (entry_of 1 j) edits r) (j + 1) commands ∙ entered_moves h (entry_of 1 j) edits r (new_entries (committed h (entry_of 1 j) edits r) (j + 1) commands)
 entries-revisions_after h j (Ask query mode budget ∷ commands) = entries-revisions_after h (j + 1) commands
 
 files_from-push : (edits : Table) (r : ℕ) (files : FilesValue) (entries : List Entry) (e : Entry) → files_from edits r files (entries ++ e ∷ []) ≡ files_after (r + length entries + 1) (files_from edits r files entries) (edits_of edits e)
@@ -67,94 +77,183 @@ next {clients} {done} {rest} {j} {command} at = record {
 edits_at : {clients : List (List Command)} {done rest : List Command} {j : ℕ} {edits : List Edit} → IsAt clients done (Commit edits ∷ rest) j → edits_in clients 1 j ≡ edits
 edits_at at = ap edits_in_command (command_at at)
 
--- each entry is of a commit of client 1, and its edits are allowed
-theirs : (clients : List (List Command)) (done rest : List Command) (j : ℕ) → IsAt clients done rest j → AllByRecursion (IsOfSession clients) (new_entries j rest)
-theirs clients done [] j at = tt
-theirs clients done (Commit edits ∷ rest) j at = (
-  (omega arith, omega (arith, at.number), subst (λ (c : Option Command). IsTrue (is_commit c)) (sym (command_at at)) refl),
-  theirs clients (done ++ Commit edits ∷ []) rest (j + 1) (next at),
+-- ---- each entry is of a commit of client 1
+
+all_entered : (P : Entry → Type 0) (r : Option Refusal) (e : Entry) (es : List Entry) → P e → AllByRecursion P es → AllByRecursion P (entered r e es)
+all_entered P None e es here rest = (here, rest)
+all_entered P (Some refusal) e es here rest = rest
+
+theirs : (clients : List (List Command)) (done rest : List Command) (j : ℕ) (h : Revisions) → IsAt clients done rest j → AllByRecursion (IsOfSession clients) (new_entries h j rest)
+theirs clients done [] j h at = tt
+theirs clients done (Commit edits ∷ rest) j h at =
+    let r = refusal_of h.newest edits in
+    all_entered (IsOfSession clients) r (entry_of 1 j) (new_entries (committed h (entry_of 1 j) edits r) (j + 1) rest)
+    (omega arith, omega (arith, at.number), subst (λ (c : Option Command). IsTrue (is_commit c)) (sym (command_at at)) refl)
+    (theirs clients (done ++ Commit edits ∷ []) rest (j + 1) (committed h (entry_of 1 j) edits r) (next at))
+theirs clients done (Ask query mode budget ∷ rest) j h at = theirs clients (done ++ Ask query mode budget ∷ []) rest (j + 1) h (next at)
+
+-- ---- none was refused where it stands
+
+met_entered : (edits_table : Table) (h : Revisions) (e : Entry) (edits : List Edit) (r : Option Refusal) (es : List Entry) → refusal_of h.newest edits ≡ r → edits_of edits_table e ≡ edits
+    → AreMet edits_table (length (committed h e edits r).entries) (committed h e edits r).newest es → AreMet edits_table (length h.entries) h.newest (entered r e es)
+met_entered edits_table h e edits None es kept at later = (
+  subst (λ (x : List Edit). refusal_of h.newest x ≡ None) (sym at) kept,
+  subst (λ (n : ℕ). AreMet edits_table n (files_after (length h.entries + 1) h.newest (edits_of edits_table e)) es) (length-append h.entries (e ∷ []))
+      (subst (λ (x : List Edit). AreMet edits_table (length (h.entries ++ e ∷ [])) (files_after (length h.entries + 1) h.newest x) es) (sym at) later),
 )
-theirs clients done (Ask query mode budget ∷ rest) j at = theirs clients (done ++ Ask query mode budget ∷ []) rest (j + 1) (next at)
+met_entered edits_table h e edits (Some refusal) es kept at later = later
 
-met : (clients : List (List Command)) (done rest : List Command) (j r : ℕ) (files : FilesValue) → IsAt clients done rest j → AllByRecursion CommandFits rest → AreMet (edits_in clients) r files (new_entries j rest)
-met clients done [] j r files at fits = tt
-met clients done (Commit edits ∷ rest) j r files at fits = (subst EditsFit (sym (edits_at at)) fits.0, met clients (done ++ Commit edits ∷ []) rest (j + 1) (r + 1) _ (next at) fits.1)
-met clients done (Ask query mode budget ∷ rest) j r files at fits = met clients (done ++ Ask query mode budget ∷ []) rest (j + 1) r files (next at) fits.1
+met : (clients : List (List Command)) (done rest : List Command) (j : ℕ) (h : Revisions) → IsAt clients done rest j → AreMet (edits_in clients) (length h.entries) h.newest (new_entries h j rest)
+met clients done [] j h at = tt
+met clients done (Commit edits ∷ rest) j h at =
+    let r = refusal_of h.newest edits in
+    let after = committed h (entry_of 1 j) edits r in
+    met_entered (edits_in clients) h (entry_of 1 j) edits r (new_entries after (j + 1) rest) refl (edits_at at) (met clients (done ++ Commit edits ∷ []) rest (j + 1) after (next at))
+met clients done (Ask query mode budget ∷ rest) j h at = met clients (done ++ Ask query mode budget ∷ []) rest (j + 1) h (next at)
 
-rises : (client n j : ℕ) (rest : List Command) → n < j → RisesFrom n (commands_of client (new_entries j rest))
-rises client n j [] lt = tt
-rises client n j (Commit edits ∷ rest) lt =
-    elim (nat_eq 1 client) as (λ t. RisesFrom n (map (λ e. e.command) (if t then entry_of 1 j ∷ filter (λ e. nat_eq e.client client) (new_entries (j + 1) rest) else filter (λ e. nat_eq e.client client) (new_entries (j + 1) rest)))) [
-      | true ↦ (lt, rises client j (j + 1) rest (omega arith))
-      | false ↦ rises client n (j + 1) rest (omega arith)
+-- ---- the numbers of commands rise
+
+rises_entered : (client n j : ℕ) (r : Option Refusal) (es : List Entry) → n < j → RisesFrom j (commands_of client es) → RisesFrom n (commands_of client es) → RisesFrom n (commands_of client (entered r (entry_of 1 j) es))
+rises_entered client n j None es lt behind skipped =
+    elim (nat_eq 1 client) as (λ t. RisesFrom n (map (λ e. e.command) (if t then entry_of 1 j ∷ filter (λ e. nat_eq e.client client) es else filter (λ e. nat_eq e.client client) es))) [
+      | true ↦ (lt, behind)
+      | false ↦ skipped
     ]
-rises client n j (Ask query mode budget ∷ rest) lt = rises client n (j + 1) rest (omega arith)
+rises_entered client n j (Some refusal) es lt behind skipped = skipped
 
-own : (h : Revisions) (j : ℕ) (rest : List Command) → commands_of 1 (new_entries j rest) ≡ accepted_from j (records_after h 1 j rest)
-own h j [] = refl
-own h j (Commit edits ∷ rest) = ap (λ (ns : List ℕ). j ∷ ns) (own (revisions_after_one h (entry_of 1 j) (Commit edits)) (j + 1) rest)
-own h j (Ask query mode budget ∷ rest) = own h (j + 1) rest
+rises : (client n j : ℕ) (h : Revisions) (rest : List Command) → n < j → RisesFrom n (commands_of client (new_entries h j rest))
+rises client n j h [] lt = tt
+rises client n j h (Commit edits ∷ rest) lt =
+    let r = refusal_of h.newest edits in
+    let after = committed h (entry_of 1 j) edits r in
+    rises_entered client n j r (new_entries after (j + 1) rest) lt (rises client j (j + 1) after rest (omega arith)) (rises client n (j + 1) after rest (omega arith))
+rises client n j h (Ask query mode budget ∷ rest) lt = rises client n (j + 1) h rest (omega arith)
 
-answers : (files : FilesValue) (query : Query) (budget : ℕ) → answer files query budget ≡ Done (lines_of files query)
-answers files (File name) budget = ap (λ (t : Bool). if t then Spent else Done (lines_of files (File name))) (le-ltb budget 0 (omega arith))
-answers files (Expand name) budget = ap (λ (t : Bool). if t then Spent else Done (lines_of files (Expand name))) (le-ltb budget 0 (omega arith))
+-- ---- they are the commands that were accepted
 
-walks : (script : Script) (done rest : List Command) (j front : ℕ) (h : Revisions) (entries : List Entry) → IsAt script.clients done rest j
-    → entries ≡ h.entries ++ new_entries j rest → h.newest ≡ files_from (edits_in script.clients) 0 script.files h.entries → front ≤ length h.entries
-    → Walks script entries 1 j front rest (records_after h 1 j rest)
-walks script done [] j front h entries at whole newest le = tt
-walks script done (Commit edits ∷ rest) j front h entries at whole newest le =
-    let h' : Revisions = revisions_after_one h (entry_of 1 j) (Commit edits) in
-    let first : length h.entries + 1 ≡ 0 + length h.entries + 1 = omega arith in
-    let place : length h.entries + 1 - 1 ≡ length h.entries = omega arith in
-    let entered : slice_get entries (length h.entries + 1 - 1) ≡ Some (entry_of 1 j) = (λ k. slice_get (whole k) (place k)) ∙ get_entry h.entries (entry_of 1 j) (new_entries (j + 1) rest) in (
-      (omega arith, entered),
-      walks script (done ++ Commit edits ∷ []) rest (j + 1) (max front (length h.entries + 1)) h' entries (next at)
-          (whole ∙ sym (append_assoc h.entries (entry_of 1 j ∷ []) (new_entries (j + 1) rest)))
-          ((λ k. files_after (first k) (newest k) (sym (edits_at at) k)) ∙ sym (files_from-push (edits_in script.clients) 0 script.files h.entries (entry_of 1 j)))
-          (omega (arith, length-append h.entries (entry_of 1 j ∷ []))),
-    )
-walks script done (Ask query mode budget ∷ rest) j front h entries at whole newest le =
-    let more : length h.entries ≤ length entries = omega (arith, ap length whole, length-append h.entries (new_entries (j + 1) rest)) in
-    let files : session_files script entries (length h.entries) ≡ h.newest =
-    ap (λ (es : List Entry). files_from (edits_in script.clients) 0 script.files (take (length h.entries) es)) whole
-    ∙ ap (files_from (edits_in script.clients) 0 script.files) (take-append_seam h.entries (new_entries (j + 1) rest))
-    ∙ sym newest in (
-      (le, more, ap (λ (f : FilesValue). answer f query (unwrap_or budget default_budget)) files ∙ answers h.newest query (unwrap_or budget default_budget)),
-      walks script (done ++ Ask query mode budget ∷ []) rest (j + 1) (max front (length h.entries)) h entries (next at) whole newest (omega arith),
-    )
+own_entered : (h : Revisions) (j : ℕ) (r : Option Refusal) (es : List Entry) (recs : List Record) → commands_of 1 es ≡ accepted_from (j + 1) recs
+    → commands_of 1 (entered r (entry_of 1 j) es) ≡ accepted_from j (commit_record h r ∷ recs)
+own_entered h j None es recs same = ap (λ (ns : List ℕ). j ∷ ns) same
+own_entered h j (Some refusal) es recs same = same
+
+own : (h : Revisions) (j : ℕ) (rest : List Command) (recs : List Record) → AreTold h 1 j rest recs → commands_of 1 (new_entries h j rest) ≡ accepted_from j recs
+own h j [] [] told = refl
+own h j [] (rec ∷ recs) told = absurd told
+own h j (command ∷ rest) [] told = absurd told
+own h j (Commit edits ∷ rest) (rec ∷ recs) told =
+    let r = refusal_of h.newest edits in
+    let after = committed h (entry_of 1 j) edits r in
+    own_entered h j r (new_entries after (j + 1) rest) recs (own after (j + 1) rest recs told.1)
+    ∙ ap (λ (x : Record). accepted_from j (x ∷ recs)) (sym told.0)
+own h j (Ask query mode budget ∷ rest) (rec ∷ recs) told = own h (j + 1) rest recs told.1 ∙ ap (λ (x : Record). accepted_from j (x ∷ recs)) (sym told.0.1)
+
+-- ---- each record is honest
+
+module _ (script : Script) (entries : List Entry) where
+  abbrev Newest : Revisions → Type 0
+  Newest h = h.newest ≡ files_from (edits_in script.clients) 0 script.files h.entries
+
+  -- the files of the newest revision, as the history tells them
+  files_told : (h : Revisions) (es : List Entry) → entries ≡ h.entries ++ es → Newest h → session_files script entries (length h.entries) ≡ h.newest
+  files_told h es whole newest =
+      ap (λ (xs : List Entry). files_from (edits_in script.clients) 0 script.files (take (length h.entries) xs)) whole
+      ∙ ap (files_from (edits_in script.clients) 0 script.files) (take-append_seam h.entries es)
+      ∙ sym newest
+
+  within : (h : Revisions) (es : List Entry) → entries ≡ h.entries ++ es → length h.entries ≤ length entries
+  within h es whole = omega (arith, ap length whole, length-append h.entries es)
+
+  newest_after : (h : Revisions) (e : Entry) (edits : List Edit) (r : Option Refusal) → edits_of (edits_in script.clients) e ≡ edits → Newest h → Newest (committed h e edits r)
+  newest_after h e edits None at newest =
+      let number : length h.entries + 1 ≡ 0 + length h.entries + 1 = omega arith in
+      (λ k. files_after (number k) (newest k) (sym at k)) ∙ sym (files_from-push (edits_in script.clients) 0 script.files h.entries e)
+  newest_after h e edits (Some refusal) at newest = newest
+
+  front_stays : (front : ℕ) (h : Revisions) (e : Entry) (edits : List Edit) (r : Option Refusal) → front ≤ length h.entries → front_after front (commit_record h r) ≤ length (committed h e edits r).entries
+  front_stays front h e edits None le = omega (arith, length-append h.entries (e ∷ []))
+  front_stays front h e edits (Some refusal) le = omega arith
+
+  commit_is_honest : (h : Revisions) (j front : ℕ) (edits : List Edit) (r : Option Refusal) (es : List Entry) → refusal_of h.newest edits ≡ r
+      → entries ≡ h.entries ++ entered r (entry_of 1 j) es → Newest h → front ≤ length h.entries → IsHonest script entries 1 j front (Commit edits) (commit_record h r)
+  commit_is_honest h j front edits None es is whole newest le =
+      let place : length h.entries + 1 - 1 ≡ length h.entries = omega arith in
+      (omega arith, (λ k. slice_get (whole k) (place k)) ∙ get_entry h.entries (entry_of 1 j) es)
+  commit_is_honest h j front edits (Some refusal) es is whole newest le =
+      (le, within h es whole, ap (λ (f : FilesValue). refusal_of f edits) (files_told h es whole newest) ∙ is)
+
+  walks : (done rest : List Command) (j front : ℕ) (h : Revisions) (recs : List Record) → IsAt script.clients done rest j
+      → entries ≡ h.entries ++ new_entries h j rest → Newest h → front ≤ length h.entries → AreTold h 1 j rest recs → Walks script entries 1 j front rest recs
+  walks done [] j front h [] at whole newest le told = tt
+  walks done [] j front h (rec ∷ recs) at whole newest le told = absurd told
+  walks done (command ∷ rest) j front h [] at whole newest le told = absurd told
+  walks done (Commit edits ∷ rest) j front h (rec ∷ recs) at whole newest le told =
+      let r = refusal_of h.newest edits in
+      let e = entry_of 1 j in
+      let after = committed h e edits r in
+      let later = new_entries after (j + 1) rest in
+      subst (λ (x : Record). IsHonest script entries 1 j front (Commit edits) x × Walks script entries 1 (j + 1) (front_after front x) rest recs) (sym told.0) (
+        commit_is_honest h j front edits r later refl whole newest le,
+        walks (done ++ Commit edits ∷ []) rest (j + 1) (front_after front (commit_record h r)) after recs (next at)
+            (whole ∙ sym (entered_moves h e edits r later)) (newest_after h e edits r (edits_at at) newest) (front_stays front h e edits r le) told.1,
+      )
+  walks done (Ask query mode budget ∷ rest) j front h (rec ∷ recs) at whole newest le told =
+      let (lines, is, answered) = told.0 in
+      let files = files_told h (new_entries h (j + 1) rest) whole newest in
+      subst (λ (x : Record). IsHonest script entries 1 j front (Ask query mode budget) x × Walks script entries 1 (j + 1) (front_after front x) rest recs) (sym is) (
+        (le, within h (new_entries h (j + 1) rest) whole, subst (λ (f : FilesValue). IsOutcome f query (unwrap_or budget default_budget) (Done lines)) (sym files) (omega arith, answered)),
+        walks (done ++ Ask query mode budget ∷ []) rest (j + 1) (max front (length h.entries)) h recs (next at) whole newest (omega arith) told.1,
+      )
 
 -- a session of one client, from its opening files on
-pub serial_honest : (script : Script) (commands : List Command) → script.clients ≡ commands ∷ [] → AllByRecursion CommandFits commands
+pub serial_honest : (script : Script) (commands : List Command) (recs : List Record) → script.clients ≡ commands ∷ []
     → let opening : Revisions = record { entries = []; newest = script.files } in
-    Honest script (revisions_after opening 1 1 commands).entries (records_after opening 1 1 commands ∷ [])
-serial_honest script commands one fits =
+    AreTold opening 1 1 commands recs → Honest script (revisions_after opening 1 1 commands).entries (recs ∷ [])
+serial_honest script commands recs one told =
     let opening : Revisions = record { entries = []; newest = script.files } in
     let at : IsAt script.clients [] commands 1 = record { whole = one; number = refl } in
-    let entries : (revisions_after opening 1 1 commands).entries ≡ new_entries 1 commands = entries-revisions_after opening 1 commands in
-    subst (λ (es : List Entry). Honest script es (records_after opening 1 1 commands ∷ [])) (sym entries) (record {
+    let entries : (revisions_after opening 1 1 commands).entries ≡ new_entries opening 1 commands = entries-revisions_after opening 1 commands in
+    subst (λ (es : List Entry). Honest script es (recs ∷ [])) (sym entries) (record {
       legal = record {
-        met = met script.clients [] commands 1 0 script.files at fits;
-        rising = λ client. rises client 0 1 commands (omega arith);
+        met = met script.clients [] commands 1 opening at;
+        rising = λ client. rises client 0 1 opening commands (omega arith);
       };
-      theirs = theirs script.clients [] commands 1 at;
+      theirs = theirs script.clients [] commands 1 opening at;
       told =
-          subst (λ (cs : List (List Command)). AreHonestFrom script (new_entries 1 commands) 1 cs (records_after opening 1 1 commands ∷ [])) (sym one)
-          (walks script [] commands 1 0 opening (new_entries 1 commands) at refl refl (omega arith), own opening 1 commands, tt);
+          subst (λ (cs : List (List Command)). AreHonestFrom script (new_entries opening 1 commands) 1 cs (recs ∷ [])) (sym one)
+          (walks script (new_entries opening 1 commands) [] commands 1 0 opening recs at refl refl (omega arith) told, own opening 1 commands recs told, tt);
     })
 
-lone : {A : Type 0} (xs : List A) (x : A) → length xs ≡ 1 → x ≡ get_or xs 0 x → xs ≡ x ∷ []
-lone [] x one at = absurd (omega (arith, one))
-lone (y ∷ []) x one at = ap (λ z. z ∷ []) (sym at)
-lone (y ∷ z ∷ zs) x one at = absurd (omega (arith, one))
+-- ---- a session of which nothing is left for later
 
--- the same of a session that was read
-pub session_honest : (script : Script) (commands : List Command) (made : Revisions) (told : List (List Record)) → length script.clients ≡ 1 → ClientsFit script.clients → commands ≡ get_or script.clients 0 commands
+all_built : (index : ℕ) (commands : List Command) → first_unbuilt index commands ≡ None → list_all is_built_command commands ≡ true
+all_built index [] none = refl
+all_built index (command ∷ commands) none =
+    elim (is_built_command command) as (λ t. (if t then first_unbuilt (index + 1) commands else Some index) ≡ None → (t && list_all is_built_command commands) ≡ true) [
+      | true ↦ all_built (index + 1) commands
+      | false ↦ λ e. cc (e)
+    ] none
+
+no_path : (o : Option ℕ) → option_map ask_path o ≡ None → o ≡ None
+no_path None e = refl
+no_path (Some n) e = cc
+
+-- its first client is its only one, and all its commands are answered
+only_client : (commands : List Command) (others : List (List Command)) → first_later (commands ∷ others) ≡ None → (others ≡ []) × (list_all is_built_command commands ≡ true)
+only_client commands [] none = (refl, all_built 0 commands (no_path (first_unbuilt 0 commands) none))
+only_client commands (other ∷ others) none = cc
+
+pub alone : (clients : List (List Command)) (commands : List Command) → 1 ≤ length clients → first_later clients ≡ None → commands ≡ get_or clients 0 commands
+    → (clients ≡ commands ∷ []) × (list_all is_built_command commands ≡ true)
+alone [] commands some none at = absurd (omega (arith, some))
+alone (c ∷ others) commands some none at =
+    let only = only_client c others none in
+    ((λ k. sym at k ∷ only.0 k), ap (list_all is_built_command) at ∙ only.1)
+
+-- a session of one client
+pub session_honest : (script : Script) (commands : List Command) (made : Revisions) (recs : List Record) (records : List (List Record))
+    → script.clients ≡ commands ∷ []
     → let opening : Revisions = record { entries = []; newest = script.files } in
-    made ≡ revisions_after opening 1 1 commands → told ≡ records_after opening 1 1 commands ∷ [] → Honest script made.entries told
-session_honest script commands made told single all_fit at made_is told_is =
-    let one : script.clients ≡ commands ∷ [] = lone script.clients commands single at in
-    let fits : All (λ (cs : List Command). All CommandFits cs) (commands ∷ []) = subst (λ (cs : List (List Command)). All (λ (ds : List Command). All CommandFits ds) cs) one all_fit in
-    let each : AllByRecursion CommandFits commands = recursion_from_All CommandFits commands (recursion_from_All (λ (ds : List Command). All CommandFits ds) (commands ∷ []) fits).0 in
-    subst (λ (rs : List (List Record)). Honest script made.entries rs) (sym told_is)
-    (subst (λ (h : Revisions). Honest script h.entries (records_after (record { entries = []; newest = script.files }) 1 1 commands ∷ [])) (sym made_is) (serial_honest script commands one each))
+    made ≡ revisions_after opening 1 1 commands → AreTold opening 1 1 commands recs → records ≡ recs ∷ [] → Honest script made.entries records
+session_honest script commands made recs records one made_is told records_are =
+    subst (λ (rs : List (List Record)). Honest script made.entries rs) (sym records_are)
+    (subst (λ (h : Revisions). Honest script h.entries (recs ∷ [])) (sym made_is) (serial_honest script commands recs one told))

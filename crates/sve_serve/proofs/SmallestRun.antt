@@ -1,12 +1,12 @@
 -- The definitions, computed on the smallest whole run: a file is put and asked for.
-use Rattle.std.proofs.Common.{◌≡◌, ℕ, List, [], ◌∷◌, codes, refl}
+use Rattle.std.proofs.Common.{◌≡◌, ℕ, List, [], ◌∷◌, codes, refl, arith}
 use Rattle.std.specs.Fmt.{digits}
 use Rattle.sve_text.specs.declared.edit.Edit.TheVariants.{Put}
 use Rattle.sve_text.specs.Files.{FilesValue, files_after, opening_files}
 use Rattle.sve_script.specs.declared.commands.Query.TheVariants.{File}
 use Rattle.sve_report.specs.declared.entry.Entry.{Entry}
 use Rattle.sve_report.specs.declared.record.Record.TheVariants.{Accepted, Answered}
-use Rattle.sve_serve.specs.Answers.{answer, Done}
+use Rattle.sve_serve.specs.Answers.{IsOutcome, Done}
 use Rattle.sve_report.specs.Reports.{report}
 
 text : List ℕ
@@ -19,13 +19,13 @@ files = files_after 1 (opening_files []) (Put (codes "a.sv") text ∷ [])
 abbrev lines : List (List ℕ)
 lines = codes "stamp 1 bytes 20" ∷ codes "|module a;" ∷ codes "|endmodule" ∷ codes "|" ∷ []
 
-smallest_answer : answer files (File (codes "a.sv")) 1000000 ≡ Done lines
+smallest_answer : IsOutcome files (File (codes "a.sv")) 1000000 (Done lines)
 unfolding digits text
-smallest_answer = refl
+smallest_answer = (omega arith, refl)
 
-absent_answer : answer files (File (codes "b.sv")) 1000000 ≡ Done (codes "none" ∷ [])
+absent_answer : IsOutcome files (File (codes "b.sv")) 1000000 (Done (codes "none" ∷ []))
 unfolding digits text
-absent_answer = refl
+absent_answer = (omega arith, refl)
 
 abbrev entries : List Entry
 entries = record { client = 1; command = 1 } ∷ []

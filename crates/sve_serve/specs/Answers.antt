@@ -1,5 +1,5 @@
 -- What a query is answered, as a function of the files of one revision (own).
-use Rattle.std.specs.Prelude.{ℕ, ◌&&◌, is_some, List, [], ◌∷◌, ◌++◌, Option, Some, None, length, nat_lt, if◌then◌else◌, codes, decimal}
+use Rattle.std.specs.Prelude.{ℕ, ◌≡◌, ◌<◌, ◌≤◌, ◌&&◌, is_some, List, [], ◌∷◌, ◌++◌, Option, Some, None, length, if◌then◌else◌, codes, decimal}
 use Rattle.sve_bytes.specs.FileName.{is_file_name_of}
 use Rattle.sve_text.specs.Rows.{Row, text_of, stamp_of}
 use Rattle.sve_text.specs.Files.{FilesValue}
@@ -13,10 +13,9 @@ pub data Outcome : Type 0 where
   Done : List (List ℕ) → Outcome
   Spent : Outcome
 
--- the cost of a query at these files, in steps of elaboration
+-- the cost of a query at these files, in steps of elaboration: none of those that are answered by now elaborates anything
 abbrev pub cost_of : FilesValue → Query → ℕ
-cost_of files (File name) = 0
-cost_of files (Expand name) = 0
+cost_of files query = 0
 
 -- the line for a thing that is not there
 abbrev pub none : List (List ℕ)
@@ -47,9 +46,13 @@ abbrev pub expand_lines : List Row → List ℕ → List (List ℕ)
 expand_lines rows name =
     if is_file_name_of name && is_some (text_of rows name) then expanded_lines (expanded_text rows name) else none
 
-abbrev pub lines_of : FilesValue → Query → List (List ℕ)
-lines_of files (File name) = file_lines files.rows name
-lines_of files (Expand name) = expand_lines files.rows name
+-- the lines are those that the query has at these files
+abbrev pub IsAnswer : FilesValue → Query → List (List ℕ) → Type 0
+IsAnswer files (File name) lines = lines ≡ file_lines files.rows name
+IsAnswer files (Expand name) lines = lines ≡ expand_lines files.rows name
+IsAnswer files query lines = ⊥
 
-abbrev pub answer : FilesValue → Query → ℕ → Outcome
-answer files query budget = if nat_lt budget (cost_of files query) then Spent else Done (lines_of files query)
+-- how a query comes out with a budget
+abbrev pub IsOutcome : FilesValue → Query → ℕ → Outcome → Type 0
+IsOutcome files query budget (Done lines) = (cost_of files query ≤ budget) × IsAnswer files query lines
+IsOutcome files query budget Spent = budget < cost_of files query

@@ -3,14 +3,15 @@ use Rattle.std.specs.Prelude.{ℕ, ◌+◌, ◌-◌, ◌<◌, ◌≤◌, ◌≡�
 use Rattle.std.specs.List.{AllByRecursion}
 use Rattle.sve_text.specs.declared.edit.Edit.{Edit}
 use Rattle.sve_text.specs.Files.{FilesValue}
+use Rattle.sve_text.specs.Refusals.{refusal_of}
 use Rattle.sve_script.specs.declared.commands.Script.{Script}
 use Rattle.sve_script.specs.declared.commands.Command.{Command}
 use Rattle.sve_script.specs.declared.commands.Command.TheVariants.{Commit, Ask}
 use Rattle.sve_report.specs.declared.entry.Entry.{Entry}
 use Rattle.sve_report.specs.declared.record.Record.{Record}
-use Rattle.sve_report.specs.declared.record.Record.TheVariants.{Accepted, Answered}
+use Rattle.sve_report.specs.declared.record.Record.TheVariants.{Accepted, Refused, Answered}
 use Rattle.sve_serve.specs.Histories.{Table, files_at, commands_of, IsLegal}
-use Rattle.sve_serve.specs.Answers.{answer, Done}
+use Rattle.sve_serve.specs.Answers.{Done, IsOutcome}
 
 -- the command of a client; both count from 1
 abbrev pub command_in : List (List Command) → ℕ → ℕ → Option Command
@@ -36,16 +37,20 @@ default_budget = 1000000
 -- the front after a record: the largest revision that was named so far
 abbrev pub front_after : ℕ → Record → ℕ
 front_after front (Accepted r) = max front r
+front_after front (Refused r edit why) = max front r
 front_after front (Answered r lines) = max front r
 
 -- The record of command j of client i, at this front.
 -- A commit is accepted as a later entry of the history than any that was named, which is its own.
--- An ask is answered by the files of a revision that is not older than any that was named.
+-- It is refused for the first reason that it has on the files of a revision that is not older than any that was named.
+-- An ask is answered by the files of such a revision.
 abbrev pub IsHonest : Script → List Entry → ℕ → ℕ → ℕ → Command → Record → Type 0
 IsHonest script entries i j front (Commit edits) (Accepted r) = (front < r) × (slice_get entries (r - 1) ≡ Some (record { client = i; command = j }))
+IsHonest script entries i j front (Commit edits) (Refused r edit why) = (front ≤ r) × (r ≤ length entries) × (refusal_of (session_files script entries r) edits ≡ Some (record { edit = edit; why = why }))
 IsHonest script entries i j front (Commit edits) (Answered r lines) = ⊥
-IsHonest script entries i j front (Ask query mode budget) (Answered r lines) = (front ≤ r) × (r ≤ length entries) × (answer (session_files script entries r) query (unwrap_or budget default_budget) ≡ Done lines)
 IsHonest script entries i j front (Ask query mode budget) (Accepted r) = ⊥
+IsHonest script entries i j front (Ask query mode budget) (Refused r edit why) = ⊥
+IsHonest script entries i j front (Ask query mode budget) (Answered r lines) = (front ≤ r) × (r ≤ length entries) × IsOutcome (session_files script entries r) query (unwrap_or budget default_budget) (Done lines)
 
 -- one record for each command of client i from number j on, each honest at the front that the earlier ones leave
 abbrev pub Walks : Script → List Entry → ℕ → ℕ → ℕ → List Command → List Record → Type 0
@@ -58,6 +63,7 @@ Walks script entries i j front (command ∷ commands) [] = ⊥
 abbrev pub accepted_from : ℕ → List Record → List ℕ
 accepted_from j [] = []
 accepted_from j (Accepted r ∷ recs) = j ∷ accepted_from (j + 1) recs
+accepted_from j (Refused r edit why ∷ recs) = accepted_from (j + 1) recs
 accepted_from j (Answered r lines ∷ recs) = accepted_from (j + 1) recs
 
 -- each client's records are honest, from client i on, and its entries in the history are exactly its accepted commands

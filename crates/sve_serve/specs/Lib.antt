@@ -7,4 +7,5 @@ pub mod Honest
 pub mod Revisions
 pub mod Runs
 pub mod Serial
+pub mod Unbuilt
 pub mod Words

@@ -1,7 +1,9 @@
 -- The output of a run, and the status with which it ends (own).
-use Rattle.std.specs.Prelude.{ℕ, ◌≡◌, ◌<◌, ◌≤◌, ◌⊎◌, List, Option, Some, length, IfSome, codes}
+use Rattle.std.specs.Prelude.{ℕ, ◌≡◌, ◌<◌, ◌≤◌, ◌⊎◌, ◌++◌, List, Option, Some, None, length, IfSome, codes, decimal}
 use Rattle.sve_script.specs.declared.commands.Script.{Script}
-use Rattle.sve_script.specs.Session.{IsSession, IsLater, IsNotJson}
+use Rattle.sve_script.specs.declared.commands.Which.{Which}
+use Rattle.sve_script.specs.declared.commands.Which.TheVariants.{Files, Bytes, Clients, Commands, Edits, Budget}
+use Rattle.sve_script.specs.Session.{IsSession, IsMisshapen, IsBeyondLimit, IsNotJson}
 use Rattle.sve_report.specs.declared.entry.Entry.{Entry}
 use Rattle.sve_report.specs.declared.record.Record.{Record}
 use Rattle.sve_serve.specs.declared.status.Status.{Status}
@@ -9,6 +11,7 @@ use Rattle.sve_serve.specs.declared.status.Status.TheVariants.{Done, Usage, BadS
 use Rattle.sve_serve.specs.Honest.{Honest}
 use Rattle.sve_report.specs.Lines.{ended}
 use Rattle.sve_report.specs.Reports.{report}
+use Rattle.sve_serve.specs.Unbuilt.{first_later}
 use Rattle.sve_serve.specs.Words.{run, usage, spoken}
 
 -- the most bytes of a session
@@ -21,24 +24,55 @@ usage_line = ended (codes "usage: svserve run")
 abbrev pub not_json_line : List ℕ
 not_json_line = ended (codes "bad session: not JSON")
 
-abbrev pub later_line : List ℕ
-later_line = ended (codes "bad session: later")
+abbrev pub shape_line : List ℕ → List ℕ
+shape_line path = ended (codes "bad session: shape at " ++ path)
+
+abbrev pub word_of : Which → List ℕ
+word_of Files = codes "files"
+word_of Bytes = codes "bytes"
+word_of Clients = codes "clients"
+word_of Commands = codes "commands"
+word_of Edits = codes "edits"
+word_of Budget = codes "budget"
+
+abbrev pub limit_line : Which → ℕ → List ℕ
+limit_line which number = ended (codes "bad session: limit " ++ word_of which ++ codes " " ++ decimal number)
+
+abbrev pub later_line : List ℕ → List ℕ
+later_line path = ended (codes "bad session: later at " ++ path)
 
 abbrev pub too_large_line : List ℕ
 too_large_line = ended (codes "bad session: more than 16777216 bytes")
 
--- The bytes are a session, and the text reports a history of it with honest records.
+-- the bytes are a session that has a part at this path that is not answered yet
+abbrev pub IsLater : List ℕ → List ℕ → Type 0
+IsLater bytes path = (script : Script) × IsSession bytes script × (first_later script.clients ≡ Some path)
+
+-- The bytes are a session, all of which is answered, and the text reports a history of it with honest records.
 pub record IsReportOf (bytes text : List ℕ) : Type 0 where
   pub script : Script
   pub entries : List Entry
   pub records : List (List Record)
   pub session : IsSession bytes script
+  pub whole : first_later script.clients ≡ None
   pub honest : Honest script entries records
   pub written : text ≡ report entries records
 
--- the line for bytes that are no session
+-- the line for bytes that are no session, or one that is not answered yet
 abbrev pub IsRefusalOf : List ℕ → List ℕ → Type 0
-IsRefusalOf bytes text = (IsNotJson bytes × (text ≡ not_json_line)) ⊎ (IsLater bytes × (text ≡ later_line))
+IsRefusalOf bytes text =
+    (IsNotJson bytes × (text ≡ not_json_line))
+    ⊎ ((path : List ℕ) × IsMisshapen bytes path × (text ≡ shape_line path))
+    ⊎ ((which : Which) × (number : ℕ) × IsBeyondLimit bytes which number × (text ≡ limit_line which number))
+    ⊎ ((path : List ℕ) × IsLater bytes path × (text ≡ later_line path))
+
+-- the bytes are refused with such a line
+abbrev pub IsBad : List ℕ → Type 0
+IsBad bytes =
+    IsNotJson bytes
+    ⊎ ((path : List ℕ) × IsMisshapen bytes path)
+    ⊎ ((which : Which) × (number : ℕ) × IsBeyondLimit bytes which number)
+    ⊎ ((path : List ℕ) × IsLater bytes path)
 
 -- The output for the bytes of a session that was read to its end, and the status with which the run then ends.
 abbrev pub IsOutputForSession : List ℕ → Status → List ℕ → Type 0

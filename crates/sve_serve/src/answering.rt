@@ -1,9 +1,10 @@
 //! What a query is answered.
-ghost use Rattle.std.specs.Prelude.{◌≡◌, IfOk};
+ghost use Rattle.std.specs.Prelude.{◌≡◌, true, IfOk};
 ghost use Rattle.sve_origin.specs.Origins.{values};
 ghost use Rattle.sve_report.specs.Lines.{Lacks};
-ghost use Rattle.sve_serve.specs.Answers.{lines_of, text_head, file_lines, expanded_head, expand_lines, none};
+ghost use Rattle.sve_serve.specs.Answers.{IsAnswer, text_head, file_lines, expanded_head, expand_lines, none};
 ghost use Rattle.sve_serve.specs.Expansions.{expanded_text};
+ghost use Rattle.sve_serve.specs.Unbuilt.{is_built};
 
 use crate::file_texts::FileTexts;
 use itoa::Buffer;
@@ -16,11 +17,19 @@ use sve_text::{Files, Piece, file_name};
 
 /// The lines that the query has at these files.
 pub fn answer_lines(alloc: Global, files: &Files, query: &Query) -> Result<Lines, NoMemory>
-    ensures { IfOk result (λ lines. lines ≡ lines_of files.now query.now) }
+    requires { is_built query.now ≡ true }
+    ensures { IfOk result (λ lines. IsAnswer files.now query.now lines) }
 {
     match query {
         Query::File { name } => file_answer(alloc, files, name.items()),
         Query::Expand { name } => expand_answer(alloc, files, name.items()),
+        Query::Tops
+        | Query::Instance { .. }
+        | Query::Tree
+        | Query::TypeOf { .. }
+        | Query::Param { .. }
+        | Query::Resolve { .. }
+        | Query::Diagnostics => unreachable!(),
     }
 }
 

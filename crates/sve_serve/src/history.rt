@@ -1,5 +1,6 @@
-ghost use Rattle.std.specs.Prelude.{◌≡◌, ◌+◌, [], ◌∷◌, ◌++◌, length, IfOk, OnErr};
-ghost use Rattle.sve_text.specs.Files.{EditsFit, files_after};
+ghost use Rattle.std.specs.Prelude.{◌≡◌, ◌+◌, [], ◌∷◌, ◌++◌, length, None, IfOk, OnErr};
+ghost use Rattle.sve_text.specs.Files.{files_after};
+ghost use Rattle.sve_text.specs.Refusals.{refusal_of};
 
 use std::alloc::Global;
 use std::marker::Model;
@@ -54,9 +55,9 @@ impl History {
         &self.newest
     }
 
-    /// Makes the next revision by these edits, and gives its number.
+    /// Makes the next revision by these edits, on condition that the newest files do not refuse them, and gives its number.
     pub fn commit(&mut self, alloc: Global, entry: Entry, edits: &[Edit]) -> Result<u64, NoMemory>
-        requires { EditsFit edits.now }
+        requires not_refused { refusal_of self.old.newest edits.now ≡ None }
         ensures number { IfOk result (λ r. r ≡ length self.old.entries + 1) }
         ensures entered { IfOk result (λ r. self.new.entries ≡ self.old.entries ++ entry ∷ []) }
         ensures applied { IfOk result (λ r. self.new.newest ≡ files_after r self.old.newest edits.now) }

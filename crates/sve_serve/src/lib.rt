@@ -8,6 +8,7 @@ mod running;
 mod serving;
 mod status;
 mod transfer;
+mod unbuilt;
 mod words;
 
 pub use serving::serve;

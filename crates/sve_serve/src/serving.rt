@@ -1,30 +1,37 @@
 //! The whole program over any source and sink.
-ghost use Rattle.std.specs.Prelude.{◌≡◌, ℕ, ◌+◌, ◌<◌, ◌≤◌, ◌⊎◌, List, [], Some, IfOk, IfSome, length, map, take, string_bytes};
+ghost use Rattle.std.specs.Prelude.{◌≡◌, ℕ, ◌+◌, ◌<◌, ◌≤◌, ◌⊎◌, ◌++◌, List, [], Some, None, IfOk, IfSome, length, map, take, string_bytes};
+ghost use Rattle.sve_report.specs.declared.entry.Entry.{Entry};
+ghost use Rattle.sve_report.specs.declared.record.Record.{Record};
+ghost use Rattle.sve_report.specs.Lines.{ended};
+ghost use Rattle.sve_report.specs.Reports.{report};
+ghost use Rattle.sve_serve.specs.Honest.{Honest};
 ghost use Rattle.sve_io.specs.Faults.{HasRisen};
 ghost use Rattle.sve_io.specs.Moves.{Loses, Gains};
 ghost use Rattle.sve_script.specs.declared.commands.Script.{Script};
-ghost use Rattle.sve_script.specs.Session.{IsSession, IsLater, IsNotJson};
+ghost use Rattle.sve_script.specs.Limits.{AreInLimits};
+ghost use Rattle.sve_script.specs.Session.{IsSession};
 ghost use Rattle.sve_serve.specs.Endings.{Ends, IsWrittenOrCutShort};
-ghost use Rattle.sve_serve.specs.Runs.{max_session, usage_line, too_large_line, AreLeft, IsReportOf, IsRunOver, WritesItsOutput, IsOutputFor, IsOutputForSession};
+ghost use Rattle.sve_serve.specs.Runs.{max_session, usage_line, too_large_line, AreLeft, IsReportOf, IsRunOver, WritesItsOutput, IsOutputFor, IsOutputForSession, IsBad, word_of, shape_line, limit_line, later_line};
+ghost use Rattle.sve_serve.specs.Unbuilt.{first_later};
 ghost use Rattle.sve_serve.specs.Words.{run, usage, spoken};
 
 use crate::running::run;
 use crate::status::Status;
 use crate::transfer::{ReadError, read_session, write_text};
+use crate::unbuilt::first_later;
 use crate::words::is_run;
+use itoa::Buffer;
 use std::alloc::{AllocError, Global};
 use std::sync::Wait;
 use std::thread::Threads;
 use sve_bytes::NoMemory;
 use sve_io::{Sink, Source};
 use sve_report::report_text;
-use sve_script::{BadSession, script};
+use sve_script::{BadSession, Script, Which, script};
 
 const USAGE_LINE: &[u8] = b"usage: svserve run\n";
 
 const NOT_JSON_LINE: &[u8] = b"bad session: not JSON\n";
-
-const LATER_LINE: &[u8] = b"bad session: later\n";
 
 const TOO_LARGE_LINE: &[u8] = b"bad session: more than 16777216 bytes\n";
 
@@ -82,13 +89,14 @@ pub fn serve<R: Threads + Wait + Sync, S: Source, K: Sink>(
         × Gains (K.held sink.old) (K.held sink.new) too_large_line }
     ensures no_memory { result ≡ Status.NoMemory → (spoken (map string_bytes words.now) ≡ run) × (sink.new ≡ sink.old) }
 
-    // Where neither end fails, a session is answered, other bytes are refused, or memory is wanting.
+    // Where neither end fails, a session is answered, one that has a part which is not answered yet and other bytes are
+    // refused, or memory is wanting.
     ensures answered { (bytes : List ℕ) (script : Script) → IsRunOver (map string_bytes words.now) (S.left source.old) bytes
-        → length bytes ≤ max_session → IsSession bytes script
+        → length bytes ≤ max_session → IsSession bytes script → first_later script.clients ≡ None
         → ¬ HasRisen (S.faults source.old) (S.faults source.new) → ¬ HasRisen (K.faults sink.old) (K.faults sink.new)
         → (result ≡ Status.Done) ⊎ (result ≡ Status.NoMemory) }
     ensures refused { (bytes : List ℕ) → IsRunOver (map string_bytes words.now) (S.left source.old) bytes
-        → length bytes ≤ max_session → IsNotJson bytes ⊎ IsLater bytes
+        → length bytes ≤ max_session → IsBad bytes
         → ¬ HasRisen (S.faults source.old) (S.faults source.new) → ¬ HasRisen (K.faults sink.old) (K.faults sink.new)
         → (result ≡ Status.BadSession) ⊎ (result ≡ Status.NoMemory) }
     ensures too_many { (bytes : List ℕ) → IsRunOver (map string_bytes words.now) (S.left source.old) bytes
@@ -148,24 +156,73 @@ fn reply_to(alloc: Global, bytes: Vec<u8>) -> Result<Reply, NoMemory>
     // The session has its own texts, so its bytes need not stay.
     drop(bytes);
     match read {
-        Ok(script) => {
-            let ran = run(alloc, script)?;
-            Ok(Reply {
-                status: Status::Done,
-                text: report_text(alloc, ran.history.entries(), ran.records.items())?,
-            })
+        Ok(script) => match first_later(alloc, &script)? {
+            Some(path) => refusal_at(alloc, b"bad session: later at ", path.items()),
+            None => report_of(alloc, script),
+        },
+        Err(BadSession::NotJson) => refusal(Vec::from_slice(alloc, NOT_JSON_LINE)?),
+        Err(BadSession::Shape { path }) => {
+            refusal_at(alloc, b"bad session: shape at ", path.items())
         }
-        Err(BadSession::NotJson) => refusal(alloc, NOT_JSON_LINE),
-        Err(BadSession::Later) => refusal(alloc, LATER_LINE),
+        Err(BadSession::Limit { which, number }) => refusal(limit_line(alloc, which, number)?),
         Err(BadSession::NoMemory) => Err(AllocError),
     }
 }
 
-fn refusal(alloc: Global, line: &[u8]) -> Result<Reply, NoMemory>
-    ensures { IfOk result (λ reply. (reply.status ≡ Status.BadSession) × (reply.text.items ≡ line.now)) }
+/// The report of a session that is answered whole.
+fn report_of(alloc: Global, script: Script) -> Result<Reply, NoMemory>
+    requires limits { AreInLimits script.clients }
+    requires nothing_later { first_later script.clients ≡ None }
+    ensures status { IfOk result (λ reply. reply.status ≡ Status.Done) }
+    ensures text { IfOk result (λ reply. (entries : List Entry) × (records : List (List Record)) × Honest script entries records × (reply.text.items ≡ report entries records)) }
+{
+    let ran = run(alloc, script)?;
+    Ok(Reply {
+        status: Status::Done,
+        text: report_text(alloc, ran.history.entries(), ran.records.items())?,
+    })
+}
+
+fn refusal(text: Vec<u8>) -> Result<Reply, NoMemory>
+    ensures { IfOk result (λ reply. (reply.status ≡ Status.BadSession) × (reply.text.items ≡ text.items)) }
 {
     Ok(Reply {
         status: Status::BadSession,
-        text: Vec::from_slice(alloc, line)?,
+        text,
     })
+}
+
+/// The refusal that the words and the path say.
+fn refusal_at(alloc: Global, words: &[u8], path: &[u8]) -> Result<Reply, NoMemory>
+    ensures { IfOk result (λ reply. (reply.status ≡ Status.BadSession) × (reply.text.items ≡ ended (words.now ++ path.now))) }
+{
+    let mut text = Vec::from_slice(alloc, words)?;
+    text.extend_from_slice(path)?;
+    text.push(b'\n')?;
+    refusal(text)
+}
+
+fn word_of(which: Which) -> &'static [u8]
+    ensures { result.now ≡ word_of which }
+{
+    match which {
+        Which::Files => b"files",
+        Which::Bytes => b"bytes",
+        Which::Clients => b"clients",
+        Which::Commands => b"commands",
+        Which::Edits => b"edits",
+        Which::Budget => b"budget",
+    }
+}
+
+/// `bad session: limit <which> <number>`
+fn limit_line(alloc: Global, which: Which, number: u64) -> Result<Vec<u8>, NoMemory>
+    ensures { IfOk result (λ line. line.items ≡ limit_line which number) }
+{
+    let mut line = Vec::from_slice(alloc, b"bad session: limit ")?;
+    line.extend_from_slice(word_of(which))?;
+    line.push(b' ')?;
+    line.extend_from_slice(Buffer::new().format(number).as_bytes())?;
+    line.push(b'\n')?;
+    Ok(line)
 }

@@ -1,6 +1,6 @@
 -- What a commit's edits leave: which names have the new stamp, which keep what they had, and what the rows keep.
 use Rattle.std.proofs.Common.{◌≡◌, ◌≢◌, ◌⊎◌, ℕ, Bool, true, false, cond, List, [], ◌∷◌, Option, Some, refl, ap, sym, ◌∙◌, subst, inl, inr}
-use Rattle.std.specs.Prelude.{option_and_then, is_some, fold, filter}
+use Rattle.std.specs.Prelude.{IfSome, option_and_then, is_some, fold, filter}
 use Rattle.std.specs.Ordering.{is_eq}
 use Rattle.std.specs.Cmp.{booleans_Decides, first_so, second_so}
 use Rattle.std.specs.Option.{option_map_or}
@@ -8,17 +8,17 @@ use Rattle.std.specs.declared.cmp.Ordering.{Ordering}
 use Rattle.std.specs.declared.cmp.Ordering.TheVariants.{Less, Equal, Greater}
 use Rattle.std.proofs.lemmas.Map.Lookups.{exact_bytes}
 use Rattle.sve_text.specs.declared.edit.Edit.{Edit}
-use Rattle.sve_text.specs.declared.edit.Edit.TheVariants.{Put}
-use Rattle.sve_text.specs.Rows.{Row, name_cmp, row_of, text_of, stamp_of, is_there, IsInOrder, RowsFit}
-use Rattle.sve_text.specs.Files.{name_of, text_after, edited, rows_after, keep_names, EditFits}
-use Rattle.sve_text.specs.Laws.{Touches, HaveSameNames, EditChangesOneName, CommitStampsItsNames, EachFileIsItsEdits, CommitKeepsOrder, KeptNamesAreAllNames, NamesStampTellsTheSet}
+use Rattle.sve_text.specs.declared.edit.Edit.TheVariants.{Drop}
+use Rattle.sve_text.specs.Rows.{Row, name_cmp, row_of, text_of, stamp_of, is_there, IsInLimit, IsInOrder, RowsFit}
+use Rattle.sve_text.specs.Files.{name_of, text_after, edited, rows_after, keep_names}
+use Rattle.sve_text.specs.Laws.{Touches, HaveSameNames, DropTakesAway, EditChangesOneName, CommitStampsItsNames, EachFileIsItsEdits, CommitKeepsOrder, KeptNamesAreAllNames, NamesStampTellsTheSet}
 use Rattle.sve_text.proofs.Puts.{name_cmp_itself, row_of-put_row, row_of-put_row_other, IsInOrder-put_row, RowsFit-put_row}
 
 pub IsInOrder-edited : (r : ℕ) (rows : List Row) (e : Edit) → IsInOrder rows → IsInOrder (edited r rows e)
 IsInOrder-edited r rows e s = IsInOrder-put_row _ rows s
 
-pub RowsFit-edited : (r : ℕ) (rows : List Row) (e : Edit) → EditFits e → RowsFit rows → RowsFit (edited r rows e)
-RowsFit-edited r rows (Put name text) p fit = RowsFit-put_row _ rows p fit
+pub RowsFit-edited : (r : ℕ) (rows : List Row) (e : Edit) → IfSome (text_after (text_of rows (name_of e)) e) IsInLimit → RowsFit rows → RowsFit (edited r rows e)
+RowsFit-edited r rows e p fit = RowsFit-put_row _ rows p fit
 
 pub commit_keeps_order : CommitKeepsOrder
 commit_keeps_order r rows [] s = s
@@ -43,6 +43,9 @@ edit_changes_one_name r rows e = (
   λ name n. ap text_in (row_of-edited_other r rows e name n),
   λ name n. ap stamp_in (row_of-edited_other r rows e name n),
 )
+
+pub drop_takes_away : DropTakesAway
+drop_takes_away r rows name = ((edit_changes_one_name r rows (Drop name)).0, (edit_changes_one_name r rows (Drop name)).1, row_of-edited_other r rows (Drop name))
 
 -- the edits of one name
 edits_of_by : (o : Ordering) (r : ℕ) (rows : List Row) (e : Edit) (es : List Edit) (name : List ℕ) → name_cmp name (name_of e) ≡ o → fold text_after (text_of (edited r rows e) name) es ≡ fold text_after (text_of rows name) (cond (is_eq o) (e ∷ es) es)

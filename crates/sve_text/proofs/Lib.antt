@@ -1,5 +1,12 @@
 pub mod Commits
+pub mod Counts
+pub mod Limits
+pub mod Names
 pub mod Opening
 pub mod Order
 pub mod Puts
+pub mod Reasons
+pub mod Refused
 pub mod ShortNames
+pub mod Splices
+pub mod Turns

@@ -1,9 +1,9 @@
 -- The files of a revision, the edits of a commit, and the files that they leave.
-use Rattle.std.specs.Prelude.{ℕ, ◌≢◌, Bool, List, [], ◌∷◌, Option, Some, if◌then◌else◌, All, AllPairs}
+use Rattle.std.specs.Prelude.{ℕ, ◌+◌, ◌≢◌, Bool, List, [], ◌∷◌, ◌++◌, take, drop, Option, Some, None, option_map, if◌then◌else◌, All, AllPairs}
 use Rattle.std.specs.Bool.{beq}
 use Rattle.std.specs.List.{list_all}
 use Rattle.sve_text.specs.declared.edit.Edit.{Edit}
-use Rattle.sve_text.specs.declared.edit.Edit.TheVariants.{Put}
+use Rattle.sve_text.specs.declared.edit.Edit.TheVariants.{Put, Drop, Splice}
 use Rattle.sve_text.specs.Rows.{Row, text_of, is_there, put_row, IsInLimit}
 
 -- The files: a row for each name that was touched, in byte order of the names, and the stamp of the set of the names that are there.
@@ -15,10 +15,18 @@ pub record FilesValue : Type 0 where
 -- the name that an edit touches
 abbrev pub name_of : Edit → List ℕ
 name_of (Put name text) = name
+name_of (Drop name) = name
+name_of (Splice name base offset cut text) = name
+
+-- the text in which new bytes take the place of those that begin at this offset, so many of them
+abbrev pub spliced : ℕ → ℕ → List ℕ → List ℕ → List ℕ
+spliced offset cut new text = take offset text ++ new ++ drop (offset + cut) text
 
 -- what an edit leaves of its file, of which this was there before
 abbrev pub text_after : Option (List ℕ) → Edit → Option (List ℕ)
 text_after before (Put name text) = Some text
+text_after before (Drop name) = None
+text_after before (Splice name base offset cut text) = option_map (spliced offset cut text) before
 
 -- the rows after one edit of the commit that makes revision r
 abbrev pub edited : ℕ → List Row → Edit → List Row
@@ -57,11 +65,3 @@ HaveDistinctNames files = AllPairs (λ a b. a.0 ≢ b.0) files
 -- no file has a text above the limit
 abbrev pub TextsFit : List (List ℕ × List ℕ) → Type 0
 TextsFit files = All (λ file. IsInLimit file.1) files
-
--- the edit has no text above the limit
-abbrev pub EditFits : Edit → Type 0
-EditFits (Put name text) = IsInLimit text
-
--- no edit has a text above the limit
-abbrev pub EditsFit : List Edit → Type 0
-EditsFit edits = All EditFits edits

@@ -1,5 +1,5 @@
 -- Rows of files: what stands at each name, in byte order of the names.
-use Rattle.std.specs.Prelude.{ℕ, ◌≤◌, Bool, List, [], ◌∷◌, Option, Some, None, length, is_some, option_and_then, IfSome, ◌≡◌}
+use Rattle.std.specs.Prelude.{ℕ, ◌≤◌, Bool, List, [], ◌∷◌, Option, Some, None, length, is_some, option_and_then, if◌then◌else◌, IfSome, ◌≡◌}
 use Rattle.std.specs.declared.cmp.Ordering.{Ordering}
 use Rattle.std.specs.declared.cmp.Ordering.TheVariants.{Less}
 use Rattle.std.specs.Ordering.{nat_cmp, match_ordering}
@@ -32,6 +32,15 @@ is_there rows name = is_some (text_of rows name)
 -- the revision whose commit last touched the name, or 0
 abbrev pub stamp_of : List Row → List ℕ → ℕ
 stamp_of rows name = option_map_or (λ row. row.stamp) (row_of rows name) 0
+
+-- the names that are there, in the order of the rows
+abbrev pub names_in : List Row → List (List ℕ)
+names_in [] = []
+names_in (row ∷ rows) = if is_some row.text then row.name ∷ names_in rows else names_in rows
+
+-- how many files are there
+abbrev pub count : List Row → ℕ
+count rows = length (names_in rows)
 
 -- the rows with this one at its name, and all others as they are
 abbrev pub put_row : Row → List Row → List Row

@@ -1,17 +1,37 @@
-ghost use Rattle.std.specs.Prelude.{◌≡◌, IfOk};
+ghost use Rattle.std.specs.Prelude.{◌≡◌};
 ghost use Rattle.sve_text.specs.Files.{name_of};
 
 use crate::text::Text;
-use sve_bytes::{Name, NoMemory};
+use sve_bytes::Name;
 
 /// The greatest length of a file's text, in bytes (own).
 pub const MAX_FILE_LEN: usize = 1_048_576;
 
-/// One change of a commit to one file.
+/// The greatest number of files that are there at once (own).
+pub const MAX_FILES: usize = 2_048;
+
+/// One change of a commit to one file. Offsets and lengths count bytes.
 #[derive(Drop)]
 pub enum Edit {
     /// The file has this text from now on, whether or not it was there (own).
-    Put { name: Name, text: Text },
+    Put {
+        name: Name,
+        text: Text,
+    },
+    /// The file, which is there, is there no longer (own).
+    Drop {
+        name: Name,
+    },
+    /// In the file, which is there, `text` takes the place of the `cut` bytes that begin at offset `at`.
+    /// `base` is the revision whose commit last touched the file, unless an earlier edit of this commit
+    /// names it (own).
+    Splice {
+        name: Name,
+        base: u64,
+        at: u32,
+        cut: u32,
+        text: Text,
+    },
 }
 
 impl Edit {
@@ -21,21 +41,8 @@ impl Edit {
     {
         match self {
             Edit::Put { name, .. } => name,
-        }
-    }
-
-    /// The same edit, which shares its text.
-    ///
-    /// # Errors
-    /// Only for want of memory.
-    pub fn copy(&self) -> Result<Edit, NoMemory>
-        ensures { IfOk result (λ e. e ≡ self.now) }
-    {
-        match self {
-            Edit::Put { name, text } => Ok(Edit::Put {
-                name: name.copy()?,
-                text: text.share()?,
-            }),
+            Edit::Drop { name } => name,
+            Edit::Splice { name, .. } => name,
         }
     }
 }

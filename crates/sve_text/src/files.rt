@@ -1,6 +1,6 @@
-ghost use Rattle.std.specs.Prelude.{◌≡◌, IfOk, IfSome, option_map};
+ghost use Rattle.std.specs.Prelude.{◌≡◌, ◌<◌, Some, IfOk, IfSome, option_map, slice_get};
 ghost use Rattle.std.specs.Arc.{arc_value};
-ghost use Rattle.sve_text.specs.Rows.{text_of, stamp_of, IsInLimit};
+ghost use Rattle.sve_text.specs.Rows.{text_of, stamp_of, names_in, count, IsInLimit};
 ghost use Rattle.sve_text.specs.Files.{opening_files, HaveDistinctNames, TextsFit};
 
 use crate::piece::Piece;
@@ -23,13 +23,13 @@ pub struct Files {
 impl Model for Files {
     ghost use Rattle.sve_text.specs.Files.{FilesValue};
     ghost use Rattle.sve_text.specs.Rows.{IsInOrder, RowsFit};
-    ghost use Rattle.sve_text.specs.Tree.{rows_in};
+    ghost use Rattle.sve_text.specs.Tree.{rows_in, IsCounted};
 
     ghost Value = { FilesValue };
 
     ghost view = { λ f. record { rows = rows_in f.tree; names_stamp = f.names_stamp } };
 
-    ghost invariant = { λ f. IsInOrder (rows_in f.tree) × RowsFit (rows_in f.tree) };
+    ghost invariant = { λ f. IsInOrder (rows_in f.tree) × RowsFit (rows_in f.tree) × IsCounted f.tree };
 }
 
 impl Files {
@@ -96,5 +96,29 @@ impl Files {
             Some(row) => row.stamp,
             None => 0,
         }
+    }
+
+    /// How many files are there. It takes no memory.
+    pub fn count(&self) -> usize
+        ensures { result ≡ count self.now.rows }
+    {
+        self.tree.count()
+    }
+
+    /// The name of the file at this place, from 0, in byte order of the names, on condition that so
+    /// many files are there. It takes no memory, and as many steps as a search.
+    pub fn name(&self, i: usize) -> &Name
+        requires { i < count self.now.rows }
+        ensures { slice_get (names_in self.now.rows) i ≡ Some result.now }
+    {
+        self.tree.name_at(i)
+    }
+
+    /// The revision whose commit last left another set of names than it found, or 0 where none did. It
+    /// takes no memory.
+    pub fn names_stamp(&self) -> u64
+        ensures { result ≡ self.now.names_stamp }
+    {
+        self.names_stamp
     }
 }

@@ -1,6 +1,6 @@
 //! What holds of the definitions of files and edits. The clause of each function is a law, and its
 //! body does nothing.
-ghost use Rattle.sve_text.specs.Laws.{PutChangesOneName, PutKeepsOrder, EditChangesOneName, CommitStampsItsNames, EachFileIsItsEdits, CommitKeepsOrder, KeptNamesAreAllNames, NamesStampTellsTheSet, OpeningFilesAreThere};
+ghost use Rattle.sve_text.specs.Laws.{PutChangesOneName, PutKeepsOrder, EditChangesOneName, CommitStampsItsNames, EachFileIsItsEdits, CommitKeepsOrder, KeptNamesAreAllNames, NamesStampTellsTheSet, OpeningFilesAreThere, DropTakesAway, SpliceChangesItsBytes, RefusalIsTheFirst, NoneIsRefused, CommitKeepsLimits};
 
 /// A row that is put is found at its name, and every other name has what it had.
 pub fn put_changes_one_name()
@@ -51,4 +51,35 @@ pub fn names_stamp_tells_the_set()
 /// Opening files are there with their texts and with stamp 0, and no other name is.
 pub fn opening_files_are_there()
     ensures { OpeningFilesAreThere }
+{}
+
+/// A drop takes its file away, and nothing else.
+pub fn drop_takes_away()
+    ensures { DropTakesAway }
+{}
+
+/// A splice changes the bytes that it cuts, and no others.
+#[tactic(auto, using(crate::proofs::Splices::splice_changes_its_bytes))]
+pub fn splice_changes_its_bytes()
+    ensures { SpliceChangesItsBytes }
+{}
+
+/// A refused commit is told its first edit that has a reason on what the earlier ones left, and that
+/// reason.
+#[tactic(auto, using(crate::proofs::Limits::refusal_is_the_first))]
+pub fn refusal_is_the_first()
+    ensures { RefusalIsTheFirst }
+{}
+
+/// No edit of a commit that is not refused has a reason on what the earlier ones left.
+#[tactic(auto, using(crate::proofs::Limits::none_is_refused))]
+pub fn none_is_refused()
+    ensures { NoneIsRefused }
+{}
+
+/// A commit that is not refused leaves no text above 1,048,576 bytes, and no more than 2,048 files where
+/// no more were there.
+#[tactic(auto, using(crate::proofs::Limits::commit_keeps_limits))]
+pub fn commit_keeps_limits()
+    ensures { CommitKeepsLimits }
 {}

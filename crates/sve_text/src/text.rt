@@ -1,5 +1,6 @@
-ghost use Rattle.std.specs.Prelude.{◌≡◌, IfOk};
+ghost use Rattle.std.specs.Prelude.{◌≡◌, ◌<◌, ◌^◌, length, IfOk};
 ghost use Rattle.std.specs.Arc.{arc_value};
+ghost use Rattle.sve_text.specs.Files.{spliced};
 
 use std::alloc::Global;
 use std::marker::Model;
@@ -34,11 +35,37 @@ impl Text {
         })
     }
 
+    /// The length of the text, in bytes. It takes no memory.
+    pub fn len(&self) -> usize
+        ensures len { result ≡ length self.now }
+        ensures fits { result < 2 ^ 63 }
+    {
+        self.bytes.items().len()
+    }
+
     /// The bytes of the text. It takes no memory.
-    pub fn bytes(&self) -> &[u8]
+    pub(crate) fn bytes(&self) -> &[u8]
         ensures { result.now ≡ self.now }
     {
         self.bytes.items()
+    }
+
+    /// The text in which `new` takes the place of the `cut` bytes that begin at offset `at`, or of those
+    /// of them that there are.
+    ///
+    /// # Errors
+    /// Only for want of memory.
+    pub fn splice(&self, alloc: Global, at: usize, cut: usize, new: &Text) -> Result<Text, NoMemory>
+        ensures { IfOk result (λ t. t ≡ spliced at cut new.now self.now) }
+    {
+        let old = self.bytes();
+        let front = at.min(old.len());
+        let back = at.saturating_add(cut).min(old.len());
+        let mut bytes = Vec::new(alloc);
+        bytes.extend_from_slice(&old[..front])?;
+        bytes.extend_from_slice(new.bytes())?;
+        bytes.extend_from_slice(&old[back..])?;
+        Text::of(alloc, List::of(bytes))
     }
 
     /// The same text, shared and not copied.

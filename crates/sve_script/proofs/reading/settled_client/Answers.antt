@@ -1,0 +1,18 @@
+use Rattle.std.proofs.Common.{append_assoc, arith}
+use Rattle.std.proofs.lemmas.Grind.{common_steps}
+use Rattle.std.proofs.lemmas.List.Elements.{All-tail}
+use Rattle.sve_script.specs.Limits.{HasFairBudget}
+use Rattle.sve_script.proofs.reading.settled_client.Goals as goal
+
+pub loop-draft-preserved : goal.loop-draft-preserved
+loop-draft-preserved c =
+    let kept = c.loop-draft.invariant in
+    let first = c.in-Some.ensures.steps.0 in
+    let fair = rw first at kept.rest_is_fair in
+    let len = rw first at kept.rest_len in
+    let whole = rw first at kept.whole in
+    record {
+      rest_is_fair = All-tail HasFairBudget _ _ fair;
+      rest_len = omega arith;
+      whole = grind (arith, common_steps, append_assoc, whole, c.settled.ensures, c.in_ok-push.ensures.items);
+    }
