@@ -13,7 +13,8 @@ pub fn write_declaration(w: &mut Writer<'_>, declaration: &Decl) {
     }
 }
 
-fn write_parameters(w: &mut Writer<'_>, parameters: &Parameters) {
+/// Writes a declaration of parameters.
+pub fn write_parameters(w: &mut Writer<'_>, parameters: &Parameters) {
     w.said(&parameters.keyword);
     w.blank();
     write_declared_type(w, &parameters.data_type);
@@ -26,7 +27,8 @@ fn write_parameters(w: &mut Writer<'_>, parameters: &Parameters) {
     w.token(parameters.semicolon)
 }
 
-fn write_typedef(w: &mut Writer<'_>, typedef: &Typedef) {
+/// Writes the declaration of a type.
+pub fn write_typedef(w: &mut Writer<'_>, typedef: &Typedef) {
     w.token_apart(typedef.keyword);
     write_type(w, &typedef.data_type);
     w.blank();
@@ -58,7 +60,8 @@ fn write_import_item(w: &mut Writer<'_>, item: &ImportItem) {
     }
 }
 
-fn write_modport(w: &mut Writer<'_>, modport: &Modport) {
+/// Writes a modport with its members.
+pub fn write_modport(w: &mut Writer<'_>, modport: &Modport) {
     w.token(modport.name);
     w.token(modport.opening);
     let row = &modport.members;

@@ -196,15 +196,17 @@ fn write_value_range(w: &mut Writer<'_>, range: &ValueRange) {
     }
 }
 
+/// Writes an expression in its parentheses.
 #[cycle(expressions)]
-fn write_parenthesized(w: &mut Writer<'_>, inner: &Parenthesized) {
+pub fn write_parenthesized(w: &mut Writer<'_>, inner: &Parenthesized) {
     w.token(inner.opening);
     write_expression(w, &inner.value);
     w.token(inner.closing)
 }
 
+/// Writes a cast, without what stands before its apostrophe.
 #[cycle(expressions)]
-fn write_cast(w: &mut Writer<'_>, cast: &Cast) {
+pub fn write_cast(w: &mut Writer<'_>, cast: &Cast) {
     w.token(cast.apostrophe);
     write_parenthesized(w, &cast.value)
 }
@@ -295,8 +297,9 @@ fn write_range_selects(w: &mut Writer<'_>, selects: &[RangeSelect]) {
     }
 }
 
+/// Writes the selects behind a name.
 #[cycle(expressions)]
-fn write_selects(w: &mut Writer<'_>, selects: &[Select]) {
+pub fn write_selects(w: &mut Writer<'_>, selects: &[Select]) {
     for select in selects {
         write_select(w, select);
     }
@@ -330,8 +333,9 @@ fn write_postfix(w: &mut Writer<'_>, postfix: &Postfix) {
     }
 }
 
+/// Writes arguments in their parentheses.
 #[cycle(expressions)]
-fn write_arguments(w: &mut Writer<'_>, list: &ArgumentList) {
+pub fn write_arguments(w: &mut Writer<'_>, list: &ArgumentList) {
     let row = &list.arguments;
     w.token(list.opening);
     for (number, argument) in row.items.iter().enumerate() {

@@ -17,10 +17,18 @@ mod texts;
 mod types;
 mod writer;
 
-pub use declarations::write_declaration;
-pub use expressions::write_expression;
+pub use declarations::{
+    write_declaration, write_import, write_modport, write_parameters, write_typedef,
+};
+pub use expressions::{
+    write_arguments, write_cast, write_expression, write_parenthesized, write_selects,
+};
 pub use headers::write_header;
 pub use lexing::tokens_of;
+pub use spelled::Spelled;
 pub use texts::{cut, deep_text, stop_text};
-pub use types::{write_data_type, write_type, write_typed_name};
+pub use types::{
+    write_data_type, write_declarator, write_declared_type, write_initializer, write_type,
+    write_typed_name, write_value,
+};
 pub use writer::{Writer, Written};
