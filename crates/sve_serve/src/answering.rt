@@ -68,7 +68,7 @@ fn expand_answer(alloc: Global, files: &Files, name: &[u8]) -> Result<Lines, NoM
 fn expand(alloc: Global, files: &Files, name: &Name) -> Result<Expanded, NoMemory>
     ensures { IfOk result (λ e. values e.cells ≡ expanded_text files.now.rows name.now) }
 {
-    match prep(alloc, &mut FileTexts { files }, name) {
+    match prep(alloc, &mut FileTexts { alloc, files }, name) {
         Ok(expanded) => Ok(expanded),
         Err(Halt::NoMemory) => Err(AllocError),
         Err(Halt::Stopped(_)) => unreachable!(),

@@ -1,4 +1,5 @@
 //! The files of one revision as the texts that an expansion reads.
+use std::alloc::Global;
 use std::sync::Arc;
 use sve_bytes::{List, Name};
 use sve_prep::{Halt, Texts};
@@ -8,6 +9,7 @@ use sve_text::Files;
 /// want of memory.
 #[derive(Drop)]
 pub struct FileTexts<'a> {
+    pub alloc: Global,
     pub files: &'a Files,
 }
 
@@ -31,6 +33,6 @@ impl<'a> Texts for FileTexts<'a> {
     ghost keeps_on = { λ old now new first second name text told. second name text (first name text told) };
 
     fn text(&mut self, name: &Name) -> Result<Option<Arc<List<u8>>>, Halt> {
-        Ok(self.files.shared_text(name)?)
+        Ok(self.files.shared_text(self.alloc, name)?)
     }
 }

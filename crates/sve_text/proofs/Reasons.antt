@@ -11,7 +11,8 @@ use Rattle.sve_text.specs.declared.edit.TheConstants.{MAX_FILE_LEN}
 use Rattle.sve_text.specs.declared.why.Why.{Why}
 use Rattle.sve_text.specs.declared.why.Why.TheVariants.{NoFile, Stale, Range, FileTooLarge}
 use Rattle.sve_text.specs.Rows.{Row, text_of, stamp_of, is_there, count, IsInLimit, IsInOrder}
-use Rattle.sve_text.specs.Files.{name_of, spliced, text_after, edited, rows_after}
+use Rattle.sve_rope.specs.Splice.{spliced}
+use Rattle.sve_text.specs.Files.{name_of, text_after, edited, rows_after}
 use Rattle.sve_text.specs.Laws.{Touches}
 use Rattle.sve_text.specs.Refusals.{reason_if, too_large, splice_reason, reason, name_file, reason_behind}
 use Rattle.sve_text.specs.Standing.{spliced_length, splice_reason_told, put_reason_told, reason_told, count_told}

@@ -1,7 +1,8 @@
 -- The files of a revision, the edits of a commit, and the files that they leave.
-use Rattle.std.specs.Prelude.{ℕ, ◌+◌, ◌≢◌, Bool, List, [], ◌∷◌, ◌++◌, take, drop, Option, Some, None, option_map, if◌then◌else◌, All, AllPairs}
+use Rattle.std.specs.Prelude.{ℕ, ◌≢◌, Bool, List, [], ◌∷◌, Option, Some, None, option_map, if◌then◌else◌, All, AllPairs}
 use Rattle.std.specs.Bool.{beq}
 use Rattle.std.specs.List.{list_all}
+use Rattle.sve_rope.specs.Splice.{spliced}
 use Rattle.sve_text.specs.declared.edit.Edit.{Edit}
 use Rattle.sve_text.specs.declared.edit.Edit.TheVariants.{Put, Drop, Splice}
 use Rattle.sve_text.specs.Rows.{Row, text_of, is_there, put_row, IsInLimit}
@@ -17,10 +18,6 @@ abbrev pub name_of : Edit → List ℕ
 name_of (Put name text) = name
 name_of (Drop name) = name
 name_of (Splice name base offset cut text) = name
-
--- the text in which new bytes take the place of those that begin at this offset, so many of them
-abbrev pub spliced : ℕ → ℕ → List ℕ → List ℕ → List ℕ
-spliced offset cut new text = take offset text ++ new ++ drop (offset + cut) text
 
 -- what an edit leaves of its file, of which this was there before
 abbrev pub text_after : Option (List ℕ) → Edit → Option (List ℕ)

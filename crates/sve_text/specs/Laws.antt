@@ -6,7 +6,8 @@ use Rattle.sve_text.specs.declared.edit.Edit.TheVariants.{Drop}
 use Rattle.sve_text.specs.declared.edit.TheConstants.{MAX_FILES}
 use Rattle.sve_text.specs.declared.why.Refusal.{Refusal}
 use Rattle.sve_text.specs.Rows.{Row, name_cmp, row_of, text_of, stamp_of, is_there, count, put_row, IsInOrder, RowsFit}
-use Rattle.sve_text.specs.Files.{name_of, spliced, text_after, edited, rows_after, keep_names, FilesValue, files_after, opening_rows, HaveDistinctNames}
+use Rattle.sve_rope.specs.Splice.{spliced}
+use Rattle.sve_text.specs.Files.{name_of, text_after, edited, rows_after, keep_names, FilesValue, files_after, opening_rows, HaveDistinctNames}
 use Rattle.sve_text.specs.Refusals.{reason_behind, refusal_of}
 
 -- a row that is put is found at its name, and every other name has what it had

@@ -9,7 +9,8 @@ use Rattle.sve_text.specs.declared.why.Refusal.{Refusal}
 use Rattle.sve_text.specs.declared.why.Why.{Why}
 use Rattle.sve_text.specs.declared.why.Why.TheVariants.{NoFile, Stale, Range, FileTooLarge, TooManyFiles}
 use Rattle.sve_text.specs.Rows.{Row, text_of, is_there, stamp_of, count}
-use Rattle.sve_text.specs.Files.{FilesValue, name_of, spliced, rows_after}
+use Rattle.sve_rope.specs.Splice.{spliced}
+use Rattle.sve_text.specs.Files.{FilesValue, name_of, rows_after}
 
 -- this reason where the test holds, else none
 abbrev pub reason_if : Bool → Why → Option Why

@@ -1,8 +1,8 @@
 ghost use Rattle.std.specs.Prelude.{◌≡◌};
 ghost use Rattle.sve_text.specs.Files.{name_of};
 
-use crate::text::Text;
 use sve_bytes::Name;
+use sve_rope::Text;
 
 /// The greatest length of a file's text, in bytes (own).
 pub const MAX_FILE_LEN: usize = 1_048_576;

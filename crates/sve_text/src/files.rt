@@ -5,12 +5,12 @@ ghost use Rattle.sve_text.specs.Files.{opening_files, HaveDistinctNames, TextsFi
 
 use crate::piece::Piece;
 use crate::row::StoredRow;
-use crate::text::Text;
 use crate::tree::Tree;
 use std::alloc::Global;
 use std::marker::Model;
 use std::sync::Arc;
 use sve_bytes::{List, Name, NoMemory};
+use sve_rope::Text;
 
 /// The files of one revision: for each name a text of at most 1,048,576 bytes or none, and the
 /// revision whose commit last touched it. Revisions share what they have in common.
@@ -66,16 +66,17 @@ impl Files {
     {
         let row = self.tree.find(name)?;
         match &row.text {
-            Some(text) => Some(Piece::of(text.bytes())),
+            Some(text) => Some(Piece::of_text(text)),
             None => None,
         }
     }
 
-    /// The text of a file, shared with the files and not copied, or `None` where no file of that name is there.
+    /// The text of a file in one piece, or `None` where no file of that name is there. It is shared with
+    /// the files where it is in one piece there, else a copy.
     ///
     /// # Errors
     /// Only for want of memory.
-    pub fn shared_text(&self, name: &Name) -> Result<Option<Arc<List<u8>>>, NoMemory>
+    pub fn shared_text(&self, alloc: Global, name: &Name) -> Result<Option<Arc<List<u8>>>, NoMemory>
         ensures text { IfOk result (λ text. option_map arc_value text ≡ text_of self.now.rows name.now) }
         ensures in_limit { IfOk result (λ text. IfSome text (λ shared. IsInLimit (arc_value shared))) }
     {
@@ -83,7 +84,7 @@ impl Files {
             return Ok(None);
         };
         match &row.text {
-            Some(text) => Ok(Some(text.holder()?)),
+            Some(text) => Ok(Some(text.whole(alloc)?)),
             None => Ok(None),
         }
     }

@@ -8,10 +8,10 @@ ghost use Rattle.sve_text.specs.Tree.{rows_in, IsCounted};
 use crate::edit::Edit;
 use crate::files::Files;
 use crate::row::StoredRow;
-use crate::text::Text;
 use crate::tree::Tree;
 use std::alloc::Global;
 use sve_bytes::NoMemory;
+use sve_rope::Text;
 
 /// The files after the commit of these edits, which makes revision `r`, on condition that it is not
 /// refused: the edits in order, each on what the earlier ones left. Each touched name gets stamp `r`,

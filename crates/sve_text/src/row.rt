@@ -1,8 +1,8 @@
 ghost use Rattle.std.specs.Prelude.{◌≡◌, IfOk};
 
-use crate::text::Text;
 use std::marker::Model;
 use sve_bytes::{Name, NoMemory};
+use sve_rope::Text;
 
 /// What stands at a name. Copies share the text.
 #[derive(Drop)]

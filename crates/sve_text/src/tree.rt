@@ -1,15 +1,15 @@
 //! Rows in a height-balanced search tree, whose versions share what they have in common. Balance is a
 //! matter of speed alone, so no contract speaks of heights.
-ghost use Rattle.std.specs.Prelude.{◌≡◌, ◌+◌, ◌<◌, ◌∷◌, ◌++◌, [], Some, IfOk, option_map, slice_get};
+ghost use Rattle.std.specs.Prelude.{◌≡◌, ◌+◌, ◌<◌, ◌∷◌, ◌++◌, Some, IfOk, option_map, slice_get};
 ghost use Rattle.sve_text.specs.Rows.{row_of, text_of, names_in, count, is_there, put_row, IsInOrder};
 ghost use Rattle.sve_text.specs.Tree.{rows_in, IsCounted};
 
 use crate::row::StoredRow;
-use crate::text::Text;
 use std::alloc::{AllocError, Global};
 use std::cmp::Ordering;
 use std::sync::Arc;
 use sve_bytes::{Name, NoMemory};
+use sve_rope::Text;
 
 /// Rows in byte order of their names.
 #[cycle(tree)]

@@ -7,5 +7,5 @@ use Rattle.sve_text.proofs.files.Files.text.Goals as goal
 
 pub returns-in-Some-clause-in_limit : goal.returns-in-Some-clause-in_limit
 returns-in-Some-clause-in_limit c =
-    let found : Some c.of.result ≡ text_of (rows_in c.self.inside.tree) c.args.name.now = search rules in
+    let found : Some c.of_text.result ≡ text_of (rows_in c.self.inside.tree) c.args.name.now = search rules in
     subst (λ t. IfSome t IsInLimit) (sym found) (text_of_in_limit _ c.args.name.now c.self.invariant.1)
