@@ -9,16 +9,18 @@ use Rattle.sve_text.specs.Files.{HaveDistinctNames, TextsFit}
 use Rattle.sve_text.specs.Rows.{IsInLimit}
 use Rattle.sve_text.specs.declared.edit.TheConstants.{MAX_FILE_LEN, MAX_FILES}
 use Rattle.sve_shape.specs.Shapes.{Shaped, under, shaped_map, shaped_then, shaped_of, has_exactly, member_as, items_as, array_as}
-use Rattle.sve_script.specs.declared.commands.Command.{Command}
-use Rattle.sve_script.specs.declared.commands.Script.{Script}
-use Rattle.sve_script.specs.declared.commands.BadSession.{BadSession}
-use Rattle.sve_script.specs.declared.commands.Which.{Which}
-use Rattle.sve_script.specs.declared.commands.Which.TheVariants.{Files, Bytes, Clients, Commands, Edits, Budget}
-use Rattle.sve_script.specs.declared.commands.TheConstants.{MAX_CLIENTS, MAX_COMMANDS, MAX_EDITS}
+use Rattle.sve_command.specs.declared.commands.Command.{Command}
+use Rattle.sve_command.specs.Sizes.{edit_count, bad_budget_of, HasFairBudget}
+use Rattle.sve_command.specs.Commands.{command_of}
+use Rattle.sve_script.specs.declared.sessions.Script.{Script}
+use Rattle.sve_script.specs.declared.sessions.BadSession.{BadSession}
+use Rattle.sve_script.specs.declared.sessions.Which.{Which}
+use Rattle.sve_script.specs.declared.sessions.Which.TheVariants.{Files, Bytes, Clients, Commands, Edits, Budget}
+use Rattle.sve_script.specs.declared.sessions.TheConstants.{MAX_CLIENTS, MAX_COMMANDS, MAX_EDITS}
 use Rattle.sve_script.specs.declared.limits.Beyond.{Beyond}
 use Rattle.sve_script.specs.declared.parts.Parts.{Parts}
-use Rattle.sve_script.specs.Limits.{above, or_else, first_of, edit_count, bad_budget_of, HasFairBudget, long_file, large_commit, first_bad_budget, beyond, limit_of, AreInLimits}
-use Rattle.sve_script.specs.Session.{command_of, some_items, clients_of, files_of, files_as, parts_from, parts_of, within, session_from, session_of}
+use Rattle.sve_script.specs.Limits.{above, or_else, first_of, long_file, large_commit, first_bad_budget, beyond, limit_of, AreInLimits}
+use Rattle.sve_script.specs.Session.{some_items, clients_of, files_of, files_as, parts_from, parts_of, within, session_from, session_of}
 use Rattle.sve_script.proofs.Inversions.{then_at, then_ok, map_ok, under_ok, then_branch}
 use Rattle.sve_script.proofs.NewNames.{names_are_new}
 

@@ -15,7 +15,8 @@ use Rattle.serde_json.specs.declared.value.Value.{Value}
 use Rattle.sve_bytes.specs.FileName.{is_file_name_of}
 use Rattle.sve_text.specs.Files.{HaveDistinctNames}
 use Rattle.sve_shape.specs.Shapes.{Shaped, under, shaped_map, shaped_then, shaped_of, string_of, has_exactly, member_as}
-use Rattle.sve_script.specs.Session.{file_name, new_name, new_name_of, file_from, file_of, or_named, files_as}
+use Rattle.sve_command.specs.Edits.{file_name}
+use Rattle.sve_script.specs.Session.{new_name, new_name_of, file_from, file_of, or_named, files_as}
 use Rattle.sve_script.proofs.Inversions.{then_ok, map_ok, under_ok, then_branch, else_branch}
 
 abbrev pub File : Type 0

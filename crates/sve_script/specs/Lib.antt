@@ -1,4 +1,3 @@
-pub mod Drafts
 pub mod Limits
 pub mod Session
 pub mod OneReading

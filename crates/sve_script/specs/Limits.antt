@@ -1,11 +1,11 @@
 -- What a session has too much of (own).
-use Rattle.std.specs.Prelude.{ℕ, ◌≡◌, ◌≤◌, ◌&&◌, All, List, [], ◌∷◌, Option, Some, None, length, sum_by, nat_le, if◌then◌else◌}
+use Rattle.std.specs.Prelude.{ℕ, ◌≤◌, All, List, [], ◌∷◌, Option, Some, None, length, sum_by, nat_le, if◌then◌else◌}
 use Rattle.sve_text.specs.declared.edit.TheConstants.{MAX_FILE_LEN, MAX_FILES}
-use Rattle.sve_script.specs.declared.commands.Command.{Command}
-use Rattle.sve_script.specs.declared.commands.Command.TheVariants.{Commit, Ask}
-use Rattle.sve_script.specs.declared.commands.Which.{Which}
-use Rattle.sve_script.specs.declared.commands.Which.TheVariants.{Files, Bytes, Clients, Commands, Edits, Budget}
-use Rattle.sve_script.specs.declared.commands.TheConstants.{MAX_BUDGET, MAX_CLIENTS, MAX_COMMANDS, MAX_EDITS}
+use Rattle.sve_command.specs.declared.commands.Command.{Command}
+use Rattle.sve_command.specs.Sizes.{edit_count, bad_budget_of, HasFairBudget}
+use Rattle.sve_script.specs.declared.sessions.Which.{Which}
+use Rattle.sve_script.specs.declared.sessions.Which.TheVariants.{Files, Bytes, Clients, Commands, Edits, Budget}
+use Rattle.sve_script.specs.declared.sessions.TheConstants.{MAX_CLIENTS, MAX_COMMANDS, MAX_EDITS}
 use Rattle.sve_script.specs.declared.limits.Beyond.{Beyond}
 
 -- the number, where it is above the limit
@@ -21,24 +21,6 @@ or_else None other = other
 abbrev pub first_of : {A : Type 0} → (A → Option ℕ) → List A → Option ℕ
 first_of number [] = None
 first_of number (x ∷ xs) = or_else (number x) (first_of number xs)
-
--- how many edits a command has
-abbrev pub edit_count : Command → ℕ
-edit_count (Commit edits) = length edits
-edit_count (Ask query mode budget) = 0
-
--- the budget, where it is 0 or above the limit
-abbrev pub bad_budget : Option ℕ → Option ℕ
-bad_budget None = None
-bad_budget (Some number) = if nat_le 1 number && nat_le number MAX_BUDGET then None else Some number
-
-abbrev pub bad_budget_of : Command → Option ℕ
-bad_budget_of (Commit edits) = None
-bad_budget_of (Ask query mode budget) = bad_budget budget
-
--- the command's budget is one that an ask may have
-abbrev pub HasFairBudget : Command → Type 0
-HasFairBudget command = bad_budget_of command ≡ None
 
 abbrev pub long_file : List (List ℕ × List ℕ) → Option ℕ
 long_file files = first_of (λ file. above MAX_FILE_LEN (length file.1)) files

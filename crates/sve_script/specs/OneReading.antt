@@ -1,7 +1,7 @@
 -- Bytes are read one way: as one session, as JSON that is not as it should be at one path, as a session beyond one limit, or as no JSON.
 use Rattle.std.specs.Prelude.{ℕ, ◌≡◌, ◌⊎◌, List}
-use Rattle.sve_script.specs.declared.commands.Script.{Script}
-use Rattle.sve_script.specs.declared.commands.Which.{Which}
+use Rattle.sve_script.specs.declared.sessions.Script.{Script}
+use Rattle.sve_script.specs.declared.sessions.Which.{Which}
 use Rattle.sve_script.specs.Session.{IsSession, IsMisshapen, IsBeyondLimit, IsNotJson}
 
 -- no bytes are two sessions

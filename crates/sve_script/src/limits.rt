@@ -1,12 +1,13 @@
 //! The limits of a session.
 ghost use Rattle.std.specs.Prelude.{◌≡◌, Ok, Some, IfOk, length, sum_by};
-ghost use Rattle.sve_script.specs.Limits.{above, first_of, edit_count, bad_budget_of, long_file, large_commit, first_bad_budget, limit_of};
-ghost use Rattle.sve_script.specs.declared.commands.TheConstants.{MAX_EDITS};
+ghost use Rattle.sve_command.specs.Sizes.{edit_count, bad_budget_of};
+ghost use Rattle.sve_script.specs.Limits.{above, first_of, long_file, large_commit, first_bad_budget, limit_of};
+ghost use Rattle.sve_script.specs.declared.sessions.TheConstants.{MAX_EDITS};
 
-use crate::commands::{MAX_CLIENTS, MAX_COMMANDS, MAX_EDITS, Which};
-use crate::drafts::Draft;
+use crate::sessions::{MAX_CLIENTS, MAX_COMMANDS, MAX_EDITS, Which};
 use std::alloc::AllocError;
 use sve_bytes::{List, Name};
+use sve_command::Draft;
 use sve_text::{MAX_FILE_LEN, MAX_FILES, Text};
 
 /// A limit that a session is beyond.

@@ -5,14 +5,13 @@ ghost use Rattle.std.specs.Cmp.Lexicographic.{slice_cmp};
 ghost use Rattle.std.specs.BTreeSet.{contains};
 ghost use Rattle.serde_json.specs.View.{view, items_view, members_view};
 ghost use Rattle.sve_shape.specs.Shapes.{member_as};
-ghost use Rattle.sve_script.specs.Session.{new_name_of, file_from, file_of, files_as, files_of};
+ghost use Rattle.sve_script.specs.Session.{new_name_of, file_of, files_as, files_of};
 
-use crate::edits::text_of;
-use crate::taking::shaped;
 use serde_json::Value;
 use std::alloc::Global;
 use std::collections::BTreeSet;
 use sve_bytes::{List, Name};
+use sve_command::{shaped, text_of};
 use sve_shape::{
     Object, Taken, below_index, below_member, fault_at, fault_here, has_two, items_under,
     text_under,

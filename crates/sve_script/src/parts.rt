@@ -4,12 +4,11 @@ ghost use Rattle.serde_json.specs.View.{view, members_view};
 ghost use Rattle.sve_script.specs.Session.{parts_from, parts_of};
 
 use crate::clients::clients;
-use crate::drafts::Draft;
 use crate::opening::files;
-use crate::taking::shaped;
 use serde_json::Value;
 use std::alloc::Global;
 use sve_bytes::{List, Name};
+use sve_command::{Draft, shaped};
 use sve_shape::{Object, Taken, fault_here, has_two};
 use sve_text::Text;
 

@@ -2,17 +2,18 @@
 ghost use Rattle.std.specs.Prelude.{◌≡◌, ℕ, List, All, None, IfOk, IsErrOf};
 ghost use Rattle.serde_json.specs.View.{view};
 ghost use Rattle.sve_text.specs.Files.{HaveDistinctNames, opening_files};
-ghost use Rattle.sve_script.specs.declared.commands.Which.{Which};
-ghost use Rattle.sve_script.specs.Limits.{HasFairBudget, AreInLimits, limit_of};
+ghost use Rattle.sve_command.specs.Sizes.{HasFairBudget};
+ghost use Rattle.sve_script.specs.declared.sessions.Which.{Which};
+ghost use Rattle.sve_script.specs.Limits.{AreInLimits, limit_of};
 ghost use Rattle.sve_script.specs.Session.{within, session_of, IsSession, IsMisshapen, IsBeyondLimit, IsNotJson};
 
-use crate::commands::{BadSession, Command, Script};
-use crate::drafts::Draft;
 use crate::limits::{Beyond, limit};
 use crate::parts::{Parts, parts_read};
+use crate::sessions::{BadSession, Script};
 use serde_json::Value;
 use std::alloc::{AllocError, Global};
 use sve_bytes::List;
+use sve_command::{Command, Draft};
 use sve_text::Files;
 
 /// The commands of one client, whose budgets are those that an ask may have.

@@ -1,4 +1,5 @@
-use crate::commands::{Command, Script};
+use crate::sessions::Script;
+use sve_command::Command;
 
 fn may_be_shared<T: Send + Sync>(_value: &T) {}
 

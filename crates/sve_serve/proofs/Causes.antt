@@ -3,7 +3,7 @@ use Rattle.std.proofs.Common.{◌≡◌, ℕ, ◌+◌, ◌<◌, ◌≤◌, ◌�
 use Rattle.sve_io.specs.Faults.{HasRisen}
 use Rattle.sve_io.specs.Moves.{Loses, Gains}
 use Rattle.sve_io.proofs.MovesInTurn.{Loses-nil}
-use Rattle.sve_script.specs.declared.commands.Script.{Script}
+use Rattle.sve_script.specs.declared.sessions.Script.{Script}
 use Rattle.sve_script.specs.Session.{IsSession}
 use Rattle.sve_serve.specs.declared.status.Status.{Status}
 use Rattle.sve_serve.specs.declared.status.Status.TheVariants.{Done, Usage, BadSession, ReadFault, WriteFault, TooLarge, NoMemory}

@@ -3,7 +3,7 @@ use Rattle.std.proofs.Common.{◌≡◌, ℕ, List, [], ◌∷◌, codes, refl, 
 use Rattle.std.specs.Fmt.{digits}
 use Rattle.sve_text.specs.declared.edit.Edit.TheVariants.{Put}
 use Rattle.sve_text.specs.Files.{FilesValue, files_after, opening_files}
-use Rattle.sve_script.specs.declared.commands.Query.TheVariants.{File}
+use Rattle.sve_command.specs.declared.commands.Query.TheVariants.{File}
 use Rattle.sve_report.specs.declared.entry.Entry.{Entry}
 use Rattle.sve_report.specs.declared.record.Record.TheVariants.{Accepted, Answered}
 use Rattle.sve_serve.specs.Answers.{IsOutcome, Done}

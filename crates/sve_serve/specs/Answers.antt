@@ -3,8 +3,8 @@ use Rattle.std.specs.Prelude.{ℕ, ◌≡◌, ◌<◌, ◌≤◌, ◌&&◌, is_s
 use Rattle.sve_bytes.specs.FileName.{is_file_name_of}
 use Rattle.sve_text.specs.Rows.{Row, text_of, stamp_of}
 use Rattle.sve_text.specs.Files.{FilesValue}
-use Rattle.sve_script.specs.declared.commands.Query.{Query}
-use Rattle.sve_script.specs.declared.commands.Query.TheVariants.{File, Expand}
+use Rattle.sve_command.specs.declared.commands.Query.{Query}
+use Rattle.sve_command.specs.declared.commands.Query.TheVariants.{File, Expand}
 use Rattle.sve_serve.specs.Expansions.{expanded_text}
 use Rattle.sve_report.specs.Lines.{barred}
 

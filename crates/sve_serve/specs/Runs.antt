@@ -1,8 +1,8 @@
 -- The output of a run, and the status with which it ends (own).
 use Rattle.std.specs.Prelude.{ℕ, ◌≡◌, ◌<◌, ◌≤◌, ◌⊎◌, ◌++◌, List, Option, Some, None, length, IfSome, codes, decimal}
-use Rattle.sve_script.specs.declared.commands.Script.{Script}
-use Rattle.sve_script.specs.declared.commands.Which.{Which}
-use Rattle.sve_script.specs.declared.commands.Which.TheVariants.{Files, Bytes, Clients, Commands, Edits, Budget}
+use Rattle.sve_script.specs.declared.sessions.Script.{Script}
+use Rattle.sve_script.specs.declared.sessions.Which.{Which}
+use Rattle.sve_script.specs.declared.sessions.Which.TheVariants.{Files, Bytes, Clients, Commands, Edits, Budget}
 use Rattle.sve_script.specs.Session.{IsSession, IsMisshapen, IsBeyondLimit, IsNotJson}
 use Rattle.sve_report.specs.declared.entry.Entry.{Entry}
 use Rattle.sve_report.specs.declared.record.Record.{Record}

@@ -4,8 +4,8 @@ use Rattle.sve_text.specs.declared.edit.Edit.{Edit}
 use Rattle.sve_text.specs.declared.why.Refusal.{Refusal}
 use Rattle.sve_text.specs.Files.{files_after}
 use Rattle.sve_text.specs.Refusals.{refusal_of}
-use Rattle.sve_script.specs.declared.commands.Command.{Command}
-use Rattle.sve_script.specs.declared.commands.Command.TheVariants.{Commit, Ask}
+use Rattle.sve_command.specs.declared.commands.Command.{Command}
+use Rattle.sve_command.specs.declared.commands.Command.TheVariants.{Commit, Ask}
 use Rattle.sve_report.specs.declared.entry.Entry.{Entry}
 use Rattle.sve_report.specs.declared.record.Record.{Record}
 use Rattle.sve_report.specs.declared.record.Record.TheVariants.{Accepted, Refused, Answered}

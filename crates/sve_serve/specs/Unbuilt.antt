@@ -1,8 +1,8 @@
 -- What a session has that is not built (own).
 use Rattle.std.specs.Prelude.{ℕ, ◌+◌, ◌++◌, Bool, true, false, List, [], ◌∷◌, Option, Some, None, option_map, decimal, codes, if◌then◌else◌}
-use Rattle.sve_script.specs.declared.commands.Command.{Command}
-use Rattle.sve_script.specs.declared.commands.Command.TheVariants.{Commit, Ask}
-use Rattle.sve_script.specs.declared.commands.Query.{Query}
+use Rattle.sve_command.specs.declared.commands.Command.{Command}
+use Rattle.sve_command.specs.declared.commands.Command.TheVariants.{Commit, Ask}
+use Rattle.sve_command.specs.declared.commands.Query.{Query}
 
 -- whether what the query asks for is built
 abbrev pub is_built : Query → Bool

@@ -10,9 +10,9 @@ use crate::file_texts::FileTexts;
 use itoa::Buffer;
 use std::alloc::{AllocError, Global};
 use sve_bytes::{Name, NoMemory};
+use sve_command::Query;
 use sve_prep::{Expanded, Halt, prep};
 use sve_report::Lines;
-use sve_script::Query;
 use sve_text::{Files, Piece, file_name};
 
 /// The lines that the query has at these files.

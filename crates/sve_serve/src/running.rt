@@ -2,8 +2,9 @@
 ghost use Rattle.std.specs.Prelude.{◌≡◌, ◌<◌, ◌≤◌, ◌^◌, None, true, All, length, IfOk, OnOk};
 ghost use Rattle.std.specs.List.{list_all};
 ghost use Rattle.sve_text.specs.Refusals.{refusal_of};
-ghost use Rattle.sve_script.specs.declared.commands.TheConstants.{MAX_EDITS};
-ghost use Rattle.sve_script.specs.Limits.{AreInLimits, edit_count};
+ghost use Rattle.sve_command.specs.Sizes.{edit_count};
+ghost use Rattle.sve_script.specs.declared.sessions.TheConstants.{MAX_EDITS};
+ghost use Rattle.sve_script.specs.Limits.{AreInLimits};
 ghost use Rattle.sve_serve.specs.Honest.{Honest};
 ghost use Rattle.sve_serve.specs.Serial.{committed, commit_record, revisions_after, AreTold, revisions_after_one, IsToldOne};
 ghost use Rattle.sve_serve.specs.Unbuilt.{first_later, is_built_command};
@@ -12,8 +13,9 @@ use crate::answering::answer_lines;
 use crate::history::History;
 use std::alloc::Global;
 use sve_bytes::{List, NoMemory};
+use sve_command::Command;
 use sve_report::{Entry, Record};
-use sve_script::{Command, Script};
+use sve_script::Script;
 use sve_text::{Edit, Refusal, refusal};
 
 /// A history, and the records of each client, client 1 first.

@@ -7,7 +7,7 @@ ghost use Rattle.sve_report.specs.Reports.{report};
 ghost use Rattle.sve_serve.specs.Honest.{Honest};
 ghost use Rattle.sve_io.specs.Faults.{HasRisen};
 ghost use Rattle.sve_io.specs.Moves.{Loses, Gains};
-ghost use Rattle.sve_script.specs.declared.commands.Script.{Script};
+ghost use Rattle.sve_script.specs.declared.sessions.Script.{Script};
 ghost use Rattle.sve_script.specs.Limits.{AreInLimits};
 ghost use Rattle.sve_script.specs.Session.{IsSession};
 ghost use Rattle.sve_serve.specs.Endings.{Ends, IsWrittenOrCutShort};

@@ -5,7 +5,8 @@ ghost use Rattle.sve_serve.specs.Unbuilt.{is_built, is_built_command, first_unbu
 use itoa::Buffer;
 use std::alloc::Global;
 use sve_bytes::{List, NoMemory};
-use sve_script::{Command, Query, Script};
+use sve_command::{Command, Query};
+use sve_script::Script;
 
 /// Whether what the query asks for is built.
 fn is_built(query: &Query) -> bool

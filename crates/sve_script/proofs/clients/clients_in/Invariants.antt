@@ -1,6 +1,6 @@
 use Rattle.sve_shape.specs.Shapes.{array_as}
 use Rattle.sve_shape.proofs.EachItem.{IsTakenUpTo}
-use Rattle.sve_script.specs.Session.{command_of}
+use Rattle.sve_command.specs.Commands.{command_of}
 use Rattle.sve_script.proofs.clients.clients_in.Given as goal
 
 abbrev pub invariant-loop-i : goal.invariant-loop-i

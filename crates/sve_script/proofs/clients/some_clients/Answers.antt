@@ -2,7 +2,8 @@ use Rattle.std.proofs.Common.{◌≡◌, ◌≢◌, List, [], ◌∷◌, Ok, IfO
 use Rattle.serde_json.specs.View.{items_view}
 use Rattle.serde_json.specs.declared.value.Value.{Value}
 use Rattle.sve_shape.specs.Shapes.{shaped_then, items_as, array_as}
-use Rattle.sve_script.specs.Session.{command_of, some_items}
+use Rattle.sve_command.specs.Commands.{command_of}
+use Rattle.sve_script.specs.Session.{some_items}
 use Rattle.sve_script.proofs.clients.some_clients.Goals as goal
 
 some_are_there : (values : List Value) → length values ≢ 0 → some_items (items_view values) ≡ Ok (items_view values)

@@ -1,5 +1,6 @@
 use Rattle.std.proofs.Common.{◌≡◌, drop}
-use Rattle.sve_script.specs.Limits.{first_of, bad_budget_of}
+use Rattle.sve_command.specs.Sizes.{bad_budget_of}
+use Rattle.sve_script.specs.Limits.{first_of}
 use Rattle.sve_script.proofs.limits.bad_budget_in.Given as goal
 
 abbrev pub invariant-loop-command : goal.invariant-loop-command

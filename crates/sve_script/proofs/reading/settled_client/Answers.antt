@@ -1,7 +1,7 @@
 use Rattle.std.proofs.Common.{append_assoc, arith}
 use Rattle.std.proofs.lemmas.Grind.{common_steps}
 use Rattle.std.proofs.lemmas.List.Elements.{All-tail}
-use Rattle.sve_script.specs.Limits.{HasFairBudget}
+use Rattle.sve_command.specs.Sizes.{HasFairBudget}
 use Rattle.sve_script.proofs.reading.settled_client.Goals as goal
 
 pub loop-draft-preserved : goal.loop-draft-preserved

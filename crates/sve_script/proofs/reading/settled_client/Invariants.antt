@@ -1,5 +1,5 @@
 use Rattle.std.proofs.Common.{◌≡◌, ◌++◌, All, length}
-use Rattle.sve_script.specs.Limits.{HasFairBudget}
+use Rattle.sve_command.specs.Sizes.{HasFairBudget}
 use Rattle.sve_script.proofs.reading.settled_client.Given as goal
 
 -- the commands so far and those that are left are all of them

@@ -1,8 +1,8 @@
 use Rattle.std.proofs.Common.{List, All, append_assoc, arith}
 use Rattle.std.proofs.lemmas.Grind.{common_steps}
 use Rattle.std.proofs.lemmas.List.Elements.{All-tail}
-use Rattle.sve_script.specs.declared.commands.Command.{Command}
-use Rattle.sve_script.specs.Limits.{HasFairBudget}
+use Rattle.sve_command.specs.declared.commands.Command.{Command}
+use Rattle.sve_command.specs.Sizes.{HasFairBudget}
 use Rattle.sve_script.proofs.reading.settled_clients.Goals as goal
 
 pub loop-client-preserved : goal.loop-client-preserved

@@ -1,6 +1,6 @@
 use Rattle.std.proofs.Common.{◌≡◌, ◌+◌, [], List, drop, sym, ◌∙◌, subst}
 use Rattle.std.proofs.lemmas.List.{append-nil, drop_all}
-use Rattle.sve_script.specs.declared.commands.Command.{Command}
+use Rattle.sve_command.specs.declared.commands.Command.{Command}
 use Rattle.sve_serve.specs.Serial.{AreTold}
 use Rattle.sve_serve.proofs.running.run_client.Goals as goal
 

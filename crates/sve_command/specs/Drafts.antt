@@ -1,7 +1,7 @@
 -- Commands as they are read.
 use Rattle.std.specs.Prelude.{ℕ, Option}
-use Rattle.sve_script.specs.declared.commands.Command.{Command}
-use Rattle.sve_script.specs.declared.commands.Command.TheVariants.{Commit, Ask}
+use Rattle.sve_command.specs.declared.commands.Command.{Command}
+use Rattle.sve_command.specs.declared.commands.Command.TheVariants.{Commit, Ask}
 
 -- the command, with this budget where it is an ask
 abbrev pub with_budget : Option ℕ → Command → Command

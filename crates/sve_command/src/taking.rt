@@ -1,6 +1,7 @@
 //! One thing after another.
 
 /// What a part is taken for; where it is not as it should be, the function gives the part's path.
+#[macro_export]
 macro_rules! shaped {
     ($part:expr) => {
         match $part {
@@ -9,5 +10,3 @@ macro_rules! shaped {
         }
     };
 }
-
-pub(crate) use shaped;

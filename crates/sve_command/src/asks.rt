@@ -1,12 +1,12 @@
 //! Reading an ask.
 ghost use Rattle.std.specs.Prelude.{◌≡◌, IfOk};
 ghost use Rattle.serde_json.specs.View.{members_view};
-ghost use Rattle.sve_script.specs.declared.commands.QueryKind.{QueryKind};
-ghost use Rattle.sve_script.specs.Session.{kind_named, operands, has_operands, times_there, query_from, mode_from, budget_from, ask_of_kind, ask_from};
+ghost use Rattle.sve_command.specs.declared.commands.QueryKind.{QueryKind};
+ghost use Rattle.sve_command.specs.Asks.{kind_named, operands, has_operands, times_there, query_from, mode_from, budget_from, ask_of_kind, ask_from};
 
 use crate::commands::{Query, QueryKind};
 use crate::drafts::Draft;
-use crate::taking::shaped;
+use crate::shaped;
 use std::alloc::Global;
 use sve_shape::{
     Object, Taken, fault_at, fault_here, has, member_count, string_under, text_under, value_under,

@@ -2,9 +2,9 @@
 ghost use Rattle.std.specs.Prelude.{◌≡◌, IfOk, codes};
 ghost use Rattle.serde_json.specs.View.{view, items_view, members_view};
 ghost use Rattle.sve_shape.specs.Shapes.{member_as, string_of, items_as};
-ghost use Rattle.sve_script.specs.Session.{file_name_of, put_from, drop_from, splice_from, edit_of};
+ghost use Rattle.sve_command.specs.Edits.{file_name_of, put_from, drop_from, splice_from, edit_of};
 
-use crate::taking::shaped;
+use crate::shaped;
 use serde_json::Value;
 use std::alloc::Global;
 use sve_bytes::{List, Name};
@@ -21,7 +21,7 @@ const MAX_BASE: u64 = 9_223_372_036_854_775_807;
 const MAX_OFFSET: u64 = 4_294_967_295;
 
 /// The name of a file under the key.
-pub fn name_under(alloc: Global, members: &Object, key: &str) -> Taken<Name>
+fn name_under(alloc: Global, members: &Object, key: &str) -> Taken<Name>
     ensures { IfOk result (λ shaped. shaped ≡ member_as file_name_of key.now (members_view members.now.entries)) }
 {
     let Some(text) = text_under(members, key) else {

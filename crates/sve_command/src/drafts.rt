@@ -1,7 +1,7 @@
 //! Commands as they are read, before their limits are tested.
 ghost use Rattle.std.specs.Prelude.{◌≡◌};
-ghost use Rattle.sve_script.specs.declared.commands.Command.TheVariants.{Commit, Ask};
-ghost use Rattle.sve_script.specs.Limits.{HasFairBudget, bad_budget, bad_budget_of, edit_count};
+ghost use Rattle.sve_command.specs.declared.commands.Command.TheVariants.{Commit, Ask};
+ghost use Rattle.sve_command.specs.Sizes.{HasFairBudget, bad_budget, bad_budget_of, edit_count};
 
 use crate::commands::{Command, MAX_BUDGET, Query};
 use std::marker::Model;
@@ -16,8 +16,8 @@ pub struct Draft {
 }
 
 impl Model for Draft {
-    ghost use Rattle.sve_script.specs.declared.commands.Command.{Command};
-    ghost use Rattle.sve_script.specs.Drafts.{with_budget};
+    ghost use Rattle.sve_command.specs.declared.commands.Command.{Command};
+    ghost use Rattle.sve_command.specs.Drafts.{with_budget};
 
     ghost Value = { Command };
 
