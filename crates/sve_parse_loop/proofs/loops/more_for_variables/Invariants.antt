@@ -1,0 +1,17 @@
+use Rattle.std.proofs.Common.{◌≤◌, ◌-◌, length}
+use Rattle.sve_token.specs.declared.kind.Kind.TheVariants.{Comma}
+use Rattle.sve_grammar.specs.declared.symbol.Symbol.TheVariants.{DataType}
+use Rattle.sve_grammar.specs.Rule.{tok, sym, ◌∙◌, opt}
+use Rattle.sve_grammar.specs.Types.{declared_name, initializer}
+use Rattle.sve_grammar.specs.Statements.{more_for_variables}
+use Rattle.sve_grammar.specs.Reading.{leaf, at_depth}
+use Rattle.sve_grammar.proofs.Loops.{Keeps}
+use Rattle.sve_tree.specs.Shape.{further_tree, IsRow}
+use Rattle.sve_tree.specs.Statements.{for_variable_tree}
+use Rattle.sve_parse_loop.proofs.loops.more_for_variables.Given as goal
+
+abbrev pub invariant-turns : goal.invariant-turns
+invariant-turns l = Keeps l.tokens l.depth (tok Comma ∙ opt (sym DataType) ∙ declared_name ∙ initializer) (further_tree for_variable_tree leaf l.items.items l.separators.items) l.at (at_depth l.tokens l.depth more_for_variables l.from) × IsRow l.fn.first l.items.items l.separators.items × (l.from ≤ l.at)
+
+abbrev pub decreases-turns : goal.decreases-turns
+decreases-turns l = length l.tokens - l.at
