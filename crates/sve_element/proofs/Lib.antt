@@ -1,0 +1,2 @@
+pub mod DesignWays
+pub mod Chunks

@@ -1,0 +1,72 @@
+-- Which alternative of an item is the first that can begin with a kind.
+use Rattle.std.proofs.Common.{◌≡◌, ℕ, suc, false, cond, List, [], ◌∷◌, Option, Some, refl, ◌∙◌ as ◌∘◌}
+use Rattle.sve_token.specs.declared.kind.Kind.{Kind}
+use Rattle.sve_token.specs.declared.kind.Kind.TheVariants.{Keyword, Semicolon, SystemName, Identifier}
+use Rattle.sve_token.specs.declared.keywords.Keyword.{Keyword as Word}
+use Rattle.sve_token.specs.declared.keywords.Keyword.TheVariants.{KwImport, KwParameter, KwLocalparam, KwTypedef, KwFunction, KwGenvar, KwWire, KwTri, KwUwire, KwWand, KwWor, KwTriand, KwTrior, KwTri0, KwTri1, KwSupply0, KwSupply1, KwVar, KwByte, KwShortint, KwInt, KwLongint, KwInteger, KwTime, KwBit, KwLogic, KwReg, KwString, KwEnum, KwStruct, KwAssign, KwAlways, KwAlwaysFf, KwAlwaysComb, KwAlwaysLatch, KwInitial, KwGenerate, KwFor, KwIf, KwCase, KwModport}
+use Rattle.sve_grammar.specs.Token.{same_kind}
+use Rattle.sve_grammar.specs.Rule.{is_among, opens}
+use Rattle.sve_grammar.specs.Types.{parameter_keyword, net_type}
+use Rattle.sve_grammar.specs.Declarations.{import_declaration, parameter_declaration, type_declaration, net_declaration, variable_declaration, data_declaration}
+use Rattle.sve_grammar.specs.Statements.{function_declaration, system_task}
+use Rattle.sve_grammar.specs.Items.{genvar_declaration, continuous_assign, clocked_keyword, clocked_procedure, plain_keyword, plain_procedure, generate_region, loop_generate, if_generate, case_generate, modport_declaration}
+use Rattle.sve_grammar.proofs.Begins.{or_none}
+use Rattle.sve_parse_flat_item.specs.Alternatives.{first_that_begins, item_alternatives}
+
+-- the kinds that each alternative begins with
+abbrev pub alternative_kinds : List (List Kind)
+alternative_kinds =
+    (Semicolon ∷ [])
+    ∷ (Keyword KwImport ∷ [])
+    ∷ (Keyword KwParameter ∷ Keyword KwLocalparam ∷ [])
+    ∷ (Keyword KwTypedef ∷ [])
+    ∷ (Keyword KwFunction ∷ [])
+    ∷ (Keyword KwGenvar ∷ [])
+    ∷ (Keyword KwWire ∷ Keyword KwTri ∷ Keyword KwUwire ∷ Keyword KwWand ∷ Keyword KwWor ∷ Keyword KwTriand ∷ Keyword KwTrior ∷ Keyword KwTri0 ∷ Keyword KwTri1 ∷ Keyword KwSupply0 ∷ Keyword KwSupply1 ∷ [])
+    ∷ (Keyword KwVar ∷ [])
+    ∷ (Keyword KwByte ∷ Keyword KwShortint ∷ Keyword KwInt ∷ Keyword KwLongint ∷ Keyword KwInteger ∷ Keyword KwTime ∷ Keyword KwBit ∷ Keyword KwLogic ∷ Keyword KwReg ∷ Keyword KwString ∷ Keyword KwEnum ∷ Keyword KwStruct ∷ [])
+    ∷ (Keyword KwAssign ∷ [])
+    ∷ (Keyword KwAlways ∷ Keyword KwAlwaysFf ∷ [])
+    ∷ (Keyword KwAlwaysComb ∷ Keyword KwAlwaysLatch ∷ Keyword KwInitial ∷ [])
+    ∷ (Keyword KwGenerate ∷ [])
+    ∷ (Keyword KwFor ∷ [])
+    ∷ (Keyword KwIf ∷ [])
+    ∷ (Keyword KwCase ∷ [])
+    ∷ (Keyword KwModport ∷ [])
+    ∷ (SystemName ∷ [])
+    ∷ (Identifier ∷ [])
+    ∷ []
+
+abbrev pub first_with : List (List Kind) → Option Kind → ℕ
+first_with [] k = 0
+first_with (ks ∷ kss) k = cond (is_among ks k) 0 (suc (first_with kss k))
+
+first_is : (k : Option Kind) → first_that_begins item_alternatives k ≡ first_with alternative_kinds k
+unfolding import_declaration parameter_declaration parameter_keyword type_declaration function_declaration genvar_declaration net_declaration net_type variable_declaration data_declaration continuous_assign clocked_procedure clocked_keyword plain_procedure plain_keyword generate_region loop_generate if_generate case_generate modport_declaration system_task opens
+first_is k = simp or_none
+
+-- the number of a kind's alternative is that in the table
+pub first : (k : Kind) (n : ℕ) → first_with alternative_kinds (Some k) ≡ n → first_that_begins item_alternatives (Some k) ≡ n
+first k n e = first_is (Some k) ∘ e
+
+-- a kind that is neither a keyword nor one of three begins no item
+pub no_item_kind : (k : Kind) → ((w : Word) → k ≡ Keyword w → ⊥) → (k ≡ Semicolon → ⊥) → (k ≡ SystemName → ⊥) → (k ≡ Identifier → ⊥) → first_that_begins item_alternatives (Some k) ≡ 19
+unfolding same_kind
+no_item_kind (Keyword w) h i j l = absurd (h w refl)
+no_item_kind Semicolon h i j l = absurd (i refl)
+no_item_kind SystemName h i j l = absurd (j refl)
+no_item_kind Identifier h i j l = absurd (l refl)
+no_item_kind k h i j l = first k 19 refl
+
+-- nor does a keyword that is none of these
+abbrev Lacks : Word → Word → Type 0
+Lacks w v = same_kind (Keyword w) (Keyword v) ≡ false
+
+unlike_marks : (w : Word) → (same_kind (Keyword w) Semicolon ≡ false) × (same_kind (Keyword w) SystemName ≡ false) × (same_kind (Keyword w) Identifier ≡ false)
+unfolding same_kind
+unlike_marks w = (refl, refl, refl)
+
+pub no_item_word : (w : Word) → Lacks w KwImport → Lacks w KwParameter → Lacks w KwLocalparam → Lacks w KwTypedef → Lacks w KwFunction → Lacks w KwGenvar → Lacks w KwWire → Lacks w KwTri → Lacks w KwUwire → Lacks w KwWand → Lacks w KwWor → Lacks w KwTriand → Lacks w KwTrior → Lacks w KwTri0 → Lacks w KwTri1 → Lacks w KwSupply0 → Lacks w KwSupply1 → Lacks w KwVar → Lacks w KwByte → Lacks w KwShortint → Lacks w KwInt → Lacks w KwLongint → Lacks w KwInteger → Lacks w KwTime → Lacks w KwBit → Lacks w KwLogic → Lacks w KwReg → Lacks w KwString → Lacks w KwEnum → Lacks w KwStruct → Lacks w KwAssign → Lacks w KwAlways → Lacks w KwAlwaysFf → Lacks w KwAlwaysComb → Lacks w KwAlwaysLatch → Lacks w KwInitial → Lacks w KwGenerate → Lacks w KwFor → Lacks w KwIf → Lacks w KwCase → Lacks w KwModport → first_that_begins item_alternatives (Some (Keyword w)) ≡ 19
+no_item_word w h0 h1 h2 h3 h4 h5 h6 h7 h8 h9 h10 h11 h12 h13 h14 h15 h16 h17 h18 h19 h20 h21 h22 h23 h24 h25 h26 h27 h28 h29 h30 h31 h32 h33 h34 h35 h36 h37 h38 h39 h40 =
+    let marks = unlike_marks w in
+    first (Keyword w) 19 (rw (marks.0, marks.1, marks.2, h0, h1, h2, h3, h4, h5, h6, h7, h8, h9, h10, h11, h12, h13, h14, h15, h16, h17, h18, h19, h20, h21, h22, h23, h24, h25, h26, h27, h28, h29, h30, h31, h32, h33, h34, h35, h36, h37, h38, h39, h40) refl)
