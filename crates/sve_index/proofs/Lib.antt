@@ -1,0 +1,3 @@
+pub mod Added
+pub mod Folded
+pub mod Parts

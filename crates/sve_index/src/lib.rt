@@ -1,0 +1,14 @@
+//! The index of a design: which modules, interfaces and packages there are, and which modules are its tops.
+#![tactic(auto)]
+
+mod def;
+mod designs;
+mod gathered;
+mod instances;
+mod labels;
+mod source;
+mod whole;
+
+pub use def::Def;
+pub use source::FileElement;
+pub use whole::{Index, index_of};

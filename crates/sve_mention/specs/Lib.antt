@@ -1,0 +1,4 @@
+pub mod Labels
+pub mod InStatements
+pub mod InItems
+pub mod InElements
