@@ -4,8 +4,13 @@ use Rattle.sve_bytes.specs.FileName.{is_file_name_of}
 use Rattle.sve_text.specs.Rows.{Row, text_of, stamp_of}
 use Rattle.sve_text.specs.Files.{FilesValue}
 use Rattle.sve_command.specs.declared.commands.Query.{Query}
-use Rattle.sve_command.specs.declared.commands.Query.TheVariants.{File, Expand}
-use Rattle.sve_serve.specs.Expansions.{expanded_text}
+use Rattle.sve_command.specs.declared.commands.Query.TheVariants.{File, Expand, Tops, Diagnostics}
+use Rattle.sve_origin.specs.Origins.{values}
+use Rattle.sve_origin.specs.Expanded.{ExpandedValue}
+use Rattle.sve_diag.specs.declared.diag.Diag.{Diag}
+use Rattle.sve_front.specs.Expansions.{expanded}
+use Rattle.sve_front.specs.Fronts.{AreTops, AreDiagnostics}
+use Rattle.sve_listing.specs.Lists.{tops_lines, diags_lines}
 use Rattle.sve_report.specs.Lines.{barred}
 
 -- a query has its lines, or its cost is above the budget
@@ -41,15 +46,29 @@ expanded_head size = codes "bytes " ++ decimal size
 abbrev pub expanded_lines : List ℕ → List (List ℕ)
 expanded_lines text = expanded_head (length text) ∷ barred text
 
--- the expanded text of the file of this name, where the file is there
+-- the expanded text of the file of this name
+abbrev pub expanded_text : List Row → List ℕ → List ℕ
+expanded_text rows name = values (expanded rows name).cells
+
+-- and its lines, where the file is there
 abbrev pub expand_lines : List Row → List ℕ → List (List ℕ)
 expand_lines rows name =
     if is_file_name_of name && is_some (text_of rows name) then expanded_lines (expanded_text rows name) else none
+
+-- the tops of the design that these files are
+abbrev pub AreTopsLines : List Row → List (List ℕ) → Type 0
+AreTopsLines rows lines = (tops : List (List ℕ)) × AreTops rows tops × (lines ≡ tops_lines tops)
+
+-- the diagnostics of preprocessing, of the grammar and of the index, at all units
+abbrev pub AreDiagnosticsLines : List Row → List (List ℕ) → Type 0
+AreDiagnosticsLines rows lines = (diags : List Diag) × AreDiagnostics rows diags × (lines ≡ diags_lines rows diags)
 
 -- the lines are those that the query has at these files
 abbrev pub IsAnswer : FilesValue → Query → List (List ℕ) → Type 0
 IsAnswer files (File name) lines = lines ≡ file_lines files.rows name
 IsAnswer files (Expand name) lines = lines ≡ expand_lines files.rows name
+IsAnswer files Tops lines = AreTopsLines files.rows lines
+IsAnswer files Diagnostics lines = AreDiagnosticsLines files.rows lines
 IsAnswer files query lines = ⊥
 
 -- how a query comes out with a budget

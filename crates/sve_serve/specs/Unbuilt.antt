@@ -8,13 +8,13 @@ use Rattle.sve_command.specs.declared.commands.Query.{Query}
 abbrev pub is_built : Query → Bool
 is_built (Query.File name) = true
 is_built (Query.Expand name) = true
-is_built Query.Tops = false
+is_built Query.Tops = true
 is_built (Query.Instance path) = false
 is_built Query.Tree = false
 is_built (Query.TypeOf path name) = false
 is_built (Query.Param path name) = false
 is_built (Query.Resolve path name) = false
-is_built Query.Diagnostics = false
+is_built Query.Diagnostics = true
 
 abbrev pub is_built_command : Command → Bool
 is_built_command (Commit edits) = true

@@ -1,17 +1,15 @@
 //! What a query is answered.
 ghost use Rattle.std.specs.Prelude.{◌≡◌, true, IfOk};
-ghost use Rattle.sve_origin.specs.Origins.{values};
 ghost use Rattle.sve_report.specs.Lines.{Lacks};
-ghost use Rattle.sve_serve.specs.Answers.{IsAnswer, text_head, file_lines, expanded_head, expand_lines, none};
-ghost use Rattle.sve_serve.specs.Expansions.{expanded_text};
+ghost use Rattle.sve_serve.specs.Answers.{IsAnswer, AreDiagnosticsLines, AreTopsLines, text_head, file_lines, expanded_head, expand_lines, none};
 ghost use Rattle.sve_serve.specs.Unbuilt.{is_built};
 
-use crate::file_texts::FileTexts;
 use itoa::Buffer;
-use std::alloc::{AllocError, Global};
-use sve_bytes::{Name, NoMemory};
+use std::alloc::Global;
+use sve_bytes::NoMemory;
 use sve_command::Query;
-use sve_prep::{Expanded, Halt, prep};
+use sve_front::{analyze, expansion};
+use sve_listing::{diags_lines, tops_lines};
 use sve_report::Lines;
 use sve_text::{Files, Piece, file_name};
 
@@ -23,13 +21,13 @@ pub fn answer_lines(alloc: Global, files: &Files, query: &Query) -> Result<Lines
     match query {
         Query::File { name } => file_answer(alloc, files, name.items()),
         Query::Expand { name } => expand_answer(alloc, files, name.items()),
-        Query::Tops
-        | Query::Instance { .. }
+        Query::Tops => tops_answer(alloc, files),
+        Query::Diagnostics => diagnostics_answer(alloc, files),
+        Query::Instance { .. }
         | Query::Tree
         | Query::TypeOf { .. }
         | Query::Param { .. }
-        | Query::Resolve { .. }
-        | Query::Diagnostics => unreachable!(),
+        | Query::Resolve { .. } => unreachable!(),
     }
 }
 
@@ -57,22 +55,27 @@ fn expand_answer(alloc: Global, files: &Files, name: &[u8]) -> Result<Lines, NoM
     if files.text(&name).is_none() {
         return none_answer(alloc);
     }
-    let expanded = expand(alloc, files, &name)?;
+    let expanded = expansion(alloc, files, &name)?;
     let head = expanded_head_line(alloc, expanded.bytes().len())?;
     Lines::none(alloc)
         .with_line(&head)?
         .with_text(&Piece::of(expanded.bytes()))
 }
 
-/// The expansion of a file. The files tell of every name and stop no call, so that only memory can be wanting.
-fn expand(alloc: Global, files: &Files, name: &Name) -> Result<Expanded, NoMemory>
-    ensures { IfOk result (λ e. values e.cells ≡ expanded_text files.now.rows name.now) }
+/// The tops of the design that the files are.
+fn tops_answer(alloc: Global, files: &Files) -> Result<Lines, NoMemory>
+    ensures { IfOk result (λ lines. AreTopsLines files.now.rows lines) }
 {
-    match prep(alloc, &mut FileTexts { alloc, files }, name) {
-        Ok(expanded) => Ok(expanded),
-        Err(Halt::NoMemory) => Err(AllocError),
-        Err(Halt::Stopped(_)) => unreachable!(),
-    }
+    let found = analyze(alloc, files)?;
+    tops_lines(alloc, found.tops.items())
+}
+
+/// The diagnostics of preprocessing, of the grammar and of the index, at all units.
+fn diagnostics_answer(alloc: Global, files: &Files) -> Result<Lines, NoMemory>
+    ensures { IfOk result (λ lines. AreDiagnosticsLines files.now.rows lines) }
+{
+    let found = analyze(alloc, files)?;
+    diags_lines(alloc, files, found.diags.items())
 }
 
 fn none_answer(alloc: Global) -> Result<Lines, NoMemory>

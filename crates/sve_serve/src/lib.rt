@@ -2,7 +2,6 @@
 #![tactic(auto)]
 
 mod answering;
-mod file_texts;
 mod history;
 mod running;
 mod serving;

@@ -13,14 +13,12 @@ fn is_built(query: &Query) -> bool
     ensures { result ≡ is_built query.now }
 {
     match query {
-        Query::File { .. } | Query::Expand { .. } => true,
-        Query::Tops
-        | Query::Instance { .. }
+        Query::File { .. } | Query::Expand { .. } | Query::Tops | Query::Diagnostics => true,
+        Query::Instance { .. }
         | Query::Tree
         | Query::TypeOf { .. }
         | Query::Param { .. }
-        | Query::Resolve { .. }
-        | Query::Diagnostics => false,
+        | Query::Resolve { .. } => false,
     }
 }
 
