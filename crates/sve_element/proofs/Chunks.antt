@@ -12,7 +12,7 @@ use Rattle.sve_grammar.specs.Items.{unit_items, design, chunk}
 use Rattle.sve_grammar.proofs.ByKind.{read_by_kinds}
 use Rattle.sve_tree.specs.TokenWords.{words_of}
 use Rattle.sve_tree.proofs.WordKinds.{same_kinds}
-use Rattle.sve_element.specs.Chunk.{whole, read_whole}
+use Rattle.sve_element.specs.Chunk.{read_whole}
 
 module _ (ts : List Token) where
   pub fails_at_items : (e : Stop) → Fails e (at_depth ts 0 unit_items 0) → Fails e (read_whole ts)

@@ -6,7 +6,6 @@ use Rattle.sve_text.specs.Files.{FilesValue}
 use Rattle.sve_command.specs.declared.commands.Query.{Query}
 use Rattle.sve_command.specs.declared.commands.Query.TheVariants.{File, Expand, Tops, Diagnostics}
 use Rattle.sve_origin.specs.Origins.{values}
-use Rattle.sve_origin.specs.Expanded.{ExpandedValue}
 use Rattle.sve_diag.specs.declared.diag.Diag.{Diag}
 use Rattle.sve_front.specs.Expansions.{expanded}
 use Rattle.sve_front.specs.Fronts.{AreTops, AreDiagnostics}
