@@ -91,6 +91,7 @@ fn tree_text(
     is_deep: bool,
 ) -> Result<String, NoMemory> {
     let written = w.finish()?;
+    let is_whole = written.in_order && written.end == end;
     let mut text = if is_deep {
         String::from_str(alloc, "accept")?
     } else {
@@ -99,7 +100,7 @@ fn tree_text(
     if end as usize != tokens {
         write!(text, " rest at {end}")?;
     }
-    if !written.in_order || written.end != end {
+    if !is_whole {
         text.push_str(" out of order")?;
     }
     Ok(text)
