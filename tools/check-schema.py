@@ -5,7 +5,7 @@
 
 A session whose report, the .report file beside it, says that it is refused for its shape or a limit must not be valid, where a schema can
 say so. Besides, a list of values in this file must not be.
-It needs the package jsonschema, and says so in one line and ends with 0 where that is not installed. Exit status 1 where something is wrong.
+It needs the package jsonschema; where that is not installed it says so and ends with 0. Exit status 1 where something is wrong.
 """
 from __future__ import annotations
 
@@ -45,7 +45,14 @@ NO_COMMANDS: List[Any] = [
     {"commit": [{"splice": "a.sv", "base": 0, "at": 2**32, "cut": 0, "text": ""}]},
     {"commit": [{"drop": "a.sv"}] * 257},
 ]
-NO_FILES: List[Any] = [{}, [{}], [{"name": "a.sv"}], [{"name": "a.sv", "text": 1}], [{"name": "a:b", "text": ""}], [{"name": "a.sv", "text": "", "stamp": 0}]]
+NO_FILES: List[Any] = [
+    {},
+    [{}],
+    [{"name": "a.sv"}],
+    [{"name": "a.sv", "text": 1}],
+    [{"name": "a:b", "text": ""}],
+    [{"name": "a.sv", "text": "", "stamp": 0}],
+]
 NO_SESSIONS: List[Any] = [
     None,
     [],
@@ -125,7 +132,8 @@ def main() -> int:
     paths = sessions_of(sys.argv[1:] or [os.path.join(HERE, "examples")])
     wrong = wrong_sessions(validator, paths)
     passed = let_through(validator)
-    print(f"{len(paths) - wrong} of {len(paths)} files are taken as they should be; {len(NO_SESSIONS) - passed} of {len(NO_SESSIONS)} values that are no sessions are refused")
+    print(f"{len(paths) - wrong} of {len(paths)} files are taken as they should be")
+    print(f"{len(NO_SESSIONS) - passed} of {len(NO_SESSIONS)} values that are no sessions are refused")
     return 1 if wrong or passed else 0
 
 

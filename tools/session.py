@@ -127,12 +127,14 @@ def text_of(path: str) -> str:
     with open(path, "rb") as source:
         data = source.read(MAX_FILE + 1)
     if len(data) > MAX_FILE:
-        raise Failure(f"{path}: the file has {os.path.getsize(path):,} bytes; a file of a session has at most {MAX_FILE:,}")
+        size = os.path.getsize(path)
+        raise Failure(f"{path}: the file has {size:,} bytes; a file of a session has at most {MAX_FILE:,}")
     try:
         return data.decode("utf-8")
     except UnicodeDecodeError as error:
         line = data.count(b"\n", 0, error.start) + 1
-        raise Failure(f"{path}:{line}: the byte {data[error.start]:#04x} is no UTF-8; a session holds UTF-8 text alone") from None
+        byte = data[error.start]
+        raise Failure(f"{path}:{line}: the byte {byte:#04x} is no UTF-8; a session holds UTF-8 text alone") from None
 
 
 def fail_walk(error: OSError) -> None:
@@ -171,7 +173,8 @@ def name_of(path: str, root: str) -> str:
     if not is_below(path, root):
         raise Failure(f"{path}: the file is not below the root, which is {root}; --root names another one")
     if not NAME.fullmatch(name):
-        raise Failure(f"{path}: a session cannot have a file of the name {name!r}; a name is 1 to 255 letters, digits, '_', '-', '.' and '/'")
+        allowed = "1 to 255 letters, digits, '_', '-', '.' and '/'"
+        raise Failure(f"{path}: a session cannot have a file of the name {name!r}; a name is {allowed}")
     return name
 
 
@@ -228,7 +231,8 @@ def add_includes(files: Project, root: str, folders: Sequence[str], reader: Read
 def check_one_file(files: Project, name: str, path: str, included: Set[str]) -> None:
     """Refuses two files that are included by one name."""
     if name in included and not os.path.samefile(files[name].path, path):
-        raise Failure(f"{files[name].path} and {path} are both included as {name!r}, and a session has one file of a name; -I DIR says which")
+        both = f"{files[name].path} and {path}"
+        raise Failure(f"{both} are both included as {name!r}, and a session has one file of a name; -I DIR says which")
 
 
 def project_of(wish: Wish, reader: Reader) -> Project:
@@ -266,7 +270,8 @@ def ask_of(words: str, files: Project) -> Ask:
         wanted = " ".join([word, *(member.upper() for member in members)])
         raise Failure(f"--ask {words!r}: this ask is written {wanted!r}")
     if members == ("name",) and operands[0] not in files:
-        operands = [name for name, source in files.items() if os.path.normpath(source.path) == os.path.normpath(operands[0])] or operands
+        wanted_path = os.path.normpath(operands[0])
+        operands = [name for name, source in files.items() if source.path == wanted_path] or operands
     return {"ask": word, **dict(zip(members, operands))}
 
 
@@ -287,7 +292,8 @@ def ran(program: str, session: str) -> List[str]:
         raise Failure(f"{program}: the program cannot be run: {error.strerror}") from None
     lines = [line.decode(errors="replace") for line in done.stdout.split(b"\n")]
     if done.returncode != 0:
-        raise Failure(f"{program} ended with exit status {done.returncode}" + (f": {lines[0]}" if lines[0] else ""))
+        said = f": {lines[0]}" if lines[0] else ""
+        raise Failure(f"{program} ended with exit status {done.returncode}{said}")
     return lines
 
 
@@ -367,7 +373,8 @@ def show_answer(ask: Ask, lines: Sequence[str]) -> None:
     """Prints an answer that is no list of diagnostics; the pieces of a text without their bars."""
     print(shown(" ".join(ask.values())) + ":")
     for line in lines:
-        print(f"  {shown(line[1:] if ask['ask'] in ('file', 'expand') and line.startswith('|') else line)}")
+        is_piece = ask["ask"] in ("file", "expand") and line.startswith("|")
+        print(f"  {shown(line[1:] if is_piece else line)}")
 
 
 def show(asks: Sequence[Ask], answers: Sequence[Sequence[str]], files: Project) -> bool:
@@ -396,7 +403,8 @@ def splice(name: str, old: str, new: str, stamp: int) -> Edit:
     back = common_front(a[front:][::-1], b[front:][::-1])
     while back and b[len(b) - back] & 0xC0 == 0x80:
         back -= 1
-    return {"splice": name, "base": stamp, "at": front, "cut": len(a) - front - back, "text": b[front : len(b) - back].decode()}
+    text = b[front : len(b) - back].decode()
+    return {"splice": name, "base": stamp, "at": front, "cut": len(a) - front - back, "text": text}
 
 
 def changes(old: Project, new: Project, stamps: Dict[str, int]) -> List[Edit]:
@@ -476,18 +484,20 @@ def parser() -> argparse.ArgumentParser:
     """The words of the command line."""
     here = os.path.dirname(os.path.dirname(os.path.abspath(__file__)))
     program = os.environ.get("SVSERVE") or os.path.join(here, "svserve")
+    asks = ", ".join(" ".join([word, *(member.upper() for member in members)]) for word, members in OPERANDS.items())
     words = argparse.ArgumentParser(
         description="Makes a session for svserve from files on disk, and with --run runs it and shows what comes of it.",
-        epilog=f"Asks: {', '.join(' '.join([word, *(member.upper() for member in members)]) for word, members in OPERANDS.items())}; "
-        "README.md says which of them the program answers today. Exit status: 0, or 1 where diagnostics were shown, or 2 where no session could be made or run.",
+        epilog=f"Asks: {asks}; README.md says which of them the program answers today. "
+        "Exit status: 0, or 1 where diagnostics were shown, or 2 where no session could be made or run.",
     )
-    words.add_argument("paths", nargs="+", metavar="FILE|DIR", help="a file, or a folder whose .sv, .v, .svh and .vh files are taken")
-    words.add_argument("--ask", action="append", default=[], metavar="ASK", help="what is asked, as diagnostics (where none is given), tops or 'expand top.sv'; may be given again")
-    words.add_argument("-I", dest="folders", action="append", default=[], metavar="DIR", help="a folder in which included files are looked for; may be given again")
-    words.add_argument("--root", metavar="DIR", help="the folder below which the names of the session begin (default: the current one where it holds all files)")
-    words.add_argument("--run", action="store_true", help="run the session and show the answers, in place of printing the session")
-    words.add_argument("--watch", action="store_true", help="run it, and again after each change of a file, until interrupted")
-    words.add_argument("--program", default=program, metavar="FILE", help="the program to run (default: $SVSERVE, or the svserve of this repository)")
+    add = words.add_argument
+    add("paths", nargs="+", metavar="FILE|DIR", help="a file, or a folder whose .sv, .v, .svh and .vh files are taken")
+    add("--ask", action="append", default=[], help="what is asked, as diagnostics (the default), tops or 'expand top.sv'; may be given again")
+    add("-I", dest="folders", action="append", default=[], metavar="DIR", help="a folder to look for included files in; may be given again")
+    add("--root", metavar="DIR", help="the folder below which names begin (default: the current one where it holds all files)")
+    add("--run", action="store_true", help="run the session and show the answers, in place of printing the session")
+    add("--watch", action="store_true", help="run it, and again after each change of a file, until interrupted")
+    add("--program", default=program, metavar="FILE", help="the program to run (default: $SVSERVE, or svserve of this repository)")
     return words
 
 
