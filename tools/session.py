@@ -72,7 +72,7 @@ MEANINGS: Dict[str, str] = {
     "S01": "these bytes are no token",
     "S02": "this cannot stand here, or is outside the subset of SystemVerilog",
     "S03": "what begins here is nested more than 512 deep",
-    "S04": "the label behind an end word is not the name of what ends",
+    "S04": "the label behind this end word is not the name of what ends",
     "N03": "this name is defined already; the first definition counts",
 }
 
@@ -374,7 +374,7 @@ def show_answer(ask: Ask, lines: Sequence[str]) -> None:
     print(shown(" ".join(ask.values())) + ":")
     for line in lines:
         is_piece = ask["ask"] in ("file", "expand") and line.startswith("|")
-        print(f"  {shown(line[1:] if is_piece else line)}")
+        print(f"  {shown((line[1:] if is_piece else line).rstrip(chr(13)))}")
 
 
 def show(asks: Sequence[Ask], answers: Sequence[Sequence[str]], files: Project) -> bool:
@@ -466,6 +466,7 @@ def watch(wish: Wish) -> None:
     """Shows the answers, and again after each change of a file, until it is interrupted."""
     reader = Reader()
     files = project_of(wish, reader)
+    warn(wish, files)
     watched = Watched(files, files)
     while True:
         asks = [ask_of(words, watched.now) for words in wish.asks]
@@ -501,11 +502,21 @@ def parser() -> argparse.ArgumentParser:
     return words
 
 
+def warn(wish: Wish, files: Project) -> None:
+    """Says where files that were given are not read by themselves, since a user may expect that they are."""
+    for path in wish.paths:
+        if os.path.isfile(path) and not path.endswith(UNITS + HEADERS):
+            print(f"session.py: {path}: its name ends neither in .sv nor in .v, so it is read only where it is included", file=sys.stderr)
+    if not any(name.endswith(UNITS) for name in files):
+        print("session.py: no file ends in .sv or .v, so tops and diagnostics find nothing to read", file=sys.stderr)
+
+
 def perform(wish: Wish, run: bool, watching: bool) -> int:
     """Does what is asked for, and gives the exit status."""
     if watching:
         watch(wish)
     files = project_of(wish, Reader())
+    warn(wish, files)
     asks = [ask_of(words, files) for words in wish.asks]
     if not run:
         print(session_of(files, asks))
