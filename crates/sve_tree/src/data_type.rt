@@ -8,7 +8,6 @@ use crate::word::{AtomKeyword, Mark, ScopedName, Sign, VectorKeyword};
 
 /// A data type that begins with a keyword (IEEE 1800-2017, A.2.2.1).
 #[cycle(data_type)]
-#[derive(Drop)]
 pub enum DataType {
     /// An integer type with a width of its own (6.11).
     Atom {
@@ -35,6 +34,19 @@ pub enum DataType {
         /// The type.
         structure: Box<Structure>,
     },
+}
+
+impl Drop for DataType {
+    #[cycle(data_type)]
+    fn drop(self) {
+        match self {
+            DataType::Atom { atom: _ } => {}
+            DataType::Vector { vector: _ } => {}
+            DataType::Text { keyword: _ } => {}
+            DataType::Enum { enumeration: _ } => {}
+            DataType::Struct { structure: _ } => {}
+        }
+    }
 }
 
 impl DataType {
@@ -121,7 +133,6 @@ pub enum EnumBase {
 
 /// A packed structure: `struct packed {logic a; int b;}` (7.2.1).
 #[cycle(data_type)]
-#[derive(Drop)]
 pub struct Structure {
     /// `struct`.
     pub keyword: u32,
@@ -137,6 +148,21 @@ pub struct Structure {
     pub closing: u32,
     /// The packed dimensions, from left to right.
     pub dimensions: Vec<Dimension>,
+}
+
+impl Drop for Structure {
+    #[cycle(data_type)]
+    fn drop(self) {
+        let Structure {
+            keyword: _,
+            packed: _,
+            sign: _,
+            opening: _,
+            members: _,
+            closing: _,
+            dimensions: _,
+        } = self;
+    }
 }
 
 /// A name of an enumeration (6.19).
@@ -159,7 +185,6 @@ pub struct Initializer {
 
 /// Members of one type in a packed structure (7.2.1): `logic [7:0] a, b;`.
 #[cycle(data_type)]
-#[derive(Drop)]
 pub struct Members {
     /// Their type.
     pub data_type: TypeRef,
@@ -167,6 +192,17 @@ pub struct Members {
     pub names: Row<u32>,
     /// `;`.
     pub semicolon: u32,
+}
+
+impl Drop for Members {
+    #[cycle(data_type)]
+    fn drop(self) {
+        let Members {
+            data_type: _,
+            names: _,
+            semicolon: _,
+        } = self;
+    }
 }
 
 /// A name that is declared, with its unpacked dimensions (7.4.2).
@@ -180,7 +216,6 @@ pub struct Declarator {
 
 /// A type by itself (A.2.2.1).
 #[cycle(data_type)]
-#[derive(Drop)]
 pub enum TypeRef {
     /// A type that begins with a keyword.
     Written {
@@ -192,6 +227,16 @@ pub enum TypeRef {
         /// The type.
         named: NamedType,
     },
+}
+
+impl Drop for TypeRef {
+    #[cycle(data_type)]
+    fn drop(self) {
+        match self {
+            TypeRef::Written { data_type: _ } => {}
+            TypeRef::Named { named: _ } => {}
+        }
+    }
 }
 
 impl TypeRef {

@@ -9,7 +9,6 @@ use crate::word::{
 
 /// An expression (IEEE 1800-2017, clause 11, A.8.3 and A.8.4). Each number of a token is that within its chunk, from 0.
 #[cycle(expression)]
-#[derive(Drop)]
 pub enum Expr {
     /// A decimal number by itself: `12` (5.7.1).
     Decimal {
@@ -179,6 +178,83 @@ pub enum Expr {
     },
 }
 
+impl Drop for Expr {
+    #[cycle(expression)]
+    fn drop(self) {
+        match self {
+            Expr::Decimal { token: _ } => {}
+            Expr::Sized { size: _, based: _ } => {}
+            Expr::SizeCast { size: _, cast: _ } => {}
+            Expr::Based { token: _ } => {}
+            Expr::Unbased { token: _ } => {}
+            Expr::Text { token: _ } => {}
+            Expr::Parenthesized { inner: _ } => {}
+            Expr::ParenthesizedCast { size: _, cast: _ } => {}
+            Expr::Pattern { pattern: _ } => {}
+            Expr::Replication {
+                opening: _,
+                count: _,
+                inner_opening: _,
+                operands: _,
+                inner_closing: _,
+                closing: _,
+                selects: _,
+            } => {}
+            Expr::Concatenation {
+                opening: _,
+                operands: _,
+                closing: _,
+                selects: _,
+            } => {}
+            Expr::SignCast { sign: _, cast: _ } => {}
+            Expr::Type {
+                keyword: _,
+                sign: _,
+                dimensions: _,
+            } => {}
+            Expr::TypeCast {
+                keyword: _,
+                sign: _,
+                dimensions: _,
+                cast: _,
+            } => {}
+            Expr::SystemName {
+                name: _,
+                selects: _,
+            } => {}
+            Expr::SystemCall {
+                name: _,
+                arguments: _,
+                selects: _,
+            } => {}
+            Expr::Name {
+                name: _,
+                postfixes: _,
+            } => {}
+            Expr::Unary {
+                operator: _,
+                operand: _,
+            } => {}
+            Expr::Operations {
+                first: _,
+                operations: _,
+            } => {}
+            Expr::Conditional {
+                condition: _,
+                question: _,
+                chosen: _,
+                colon: _,
+                otherwise: _,
+            } => {}
+            Expr::Implication {
+                left: _,
+                operator: _,
+                right: _,
+            } => {}
+        }
+    }
+}
+
 impl Expr {
     /// The number of its first token.
     #[tactic(auto, using(crate::proofs::Firsts::first_of_name), unfolding(crate::specs::Expressions::own, crate::specs::Expressions::raise))]
@@ -207,7 +283,6 @@ impl Expr {
 
 /// An operation of a chain, on what stands before it.
 #[cycle(expression)]
-#[derive(Drop)]
 pub enum Operation {
     /// An operator and its right operand (11.4).
     Binary {
@@ -229,9 +304,26 @@ pub enum Operation {
     },
 }
 
+impl Drop for Operation {
+    #[cycle(expression)]
+    fn drop(self) {
+        match self {
+            Operation::Binary {
+                operator: _,
+                right: _,
+            } => {}
+            Operation::Inside {
+                keyword: _,
+                opening: _,
+                ranges: _,
+                closing: _,
+            } => {}
+        }
+    }
+}
+
 /// An expression in parentheses.
 #[cycle(expression)]
-#[derive(Drop)]
 pub struct Parenthesized {
     /// `(`.
     pub opening: u32,
@@ -241,9 +333,19 @@ pub struct Parenthesized {
     pub closing: u32,
 }
 
+impl Drop for Parenthesized {
+    #[cycle(expression)]
+    fn drop(self) {
+        let Parenthesized {
+            opening: _,
+            value: _,
+            closing: _,
+        } = self;
+    }
+}
+
 /// An apostrophe and, in parentheses, what is cast (6.24.1).
 #[cycle(expression)]
-#[derive(Drop)]
 pub struct Cast {
     /// `'`.
     pub apostrophe: u32,
@@ -251,9 +353,18 @@ pub struct Cast {
     pub value: Parenthesized,
 }
 
+impl Drop for Cast {
+    #[cycle(expression)]
+    fn drop(self) {
+        let Cast {
+            apostrophe: _,
+            value: _,
+        } = self;
+    }
+}
+
 /// A dimension of a type or of a name (7.4).
 #[cycle(expression)]
-#[derive(Drop)]
 pub enum Dimension {
     /// A size: `[n]`.
     Size {
@@ -279,9 +390,28 @@ pub enum Dimension {
     },
 }
 
+impl Drop for Dimension {
+    #[cycle(expression)]
+    fn drop(self) {
+        match self {
+            Dimension::Size {
+                opening: _,
+                size: _,
+                closing: _,
+            } => {}
+            Dimension::Range {
+                opening: _,
+                left: _,
+                colon: _,
+                right: _,
+                closing: _,
+            } => {}
+        }
+    }
+}
+
 /// Which places are selected (11.5.1).
 #[cycle(expression)]
-#[derive(Drop)]
 pub enum Range {
     /// One place.
     Index {
@@ -317,9 +447,32 @@ pub enum Range {
     },
 }
 
+impl Drop for Range {
+    #[cycle(expression)]
+    fn drop(self) {
+        match self {
+            Range::Index { index: _ } => {}
+            Range::Between {
+                left: _,
+                colon: _,
+                right: _,
+            } => {}
+            Range::Upward {
+                from: _,
+                at: _,
+                width: _,
+            } => {}
+            Range::Downward {
+                from: _,
+                at: _,
+                width: _,
+            } => {}
+        }
+    }
+}
+
 /// A range in brackets.
 #[cycle(expression)]
-#[derive(Drop)]
 pub struct RangeSelect {
     /// `[`.
     pub opening: u32,
@@ -329,9 +482,19 @@ pub struct RangeSelect {
     pub closing: u32,
 }
 
+impl Drop for RangeSelect {
+    #[cycle(expression)]
+    fn drop(self) {
+        let RangeSelect {
+            opening: _,
+            range: _,
+            closing: _,
+        } = self;
+    }
+}
+
 /// A step from a name to a part of what it names (11.5).
 #[cycle(expression)]
-#[derive(Drop)]
 pub enum Select {
     /// A member of a structure, or a name in a scope: `.m`.
     Member {
@@ -347,9 +510,18 @@ pub enum Select {
     },
 }
 
+impl Drop for Select {
+    #[cycle(expression)]
+    fn drop(self) {
+        match self {
+            Select::Member { dot: _, name: _ } => {}
+            Select::Range { select: _ } => {}
+        }
+    }
+}
+
 /// What is applied to a name.
 #[cycle(expression)]
-#[derive(Drop)]
 pub enum Postfix {
     /// A member, bits or elements.
     Select {
@@ -373,9 +545,20 @@ pub enum Postfix {
     },
 }
 
+impl Drop for Postfix {
+    #[cycle(expression)]
+    fn drop(self) {
+        match self {
+            Postfix::Select { select: _ } => {}
+            Postfix::Call { arguments: _ } => {}
+            Postfix::Cast { cast: _ } => {}
+            Postfix::Pattern { pattern: _ } => {}
+        }
+    }
+}
+
 /// Arguments in parentheses: of a call (13.5), or connections or overrides of an instance (23.3.2 and 23.10.2).
 #[cycle(expression)]
-#[derive(Drop)]
 pub struct ArgumentList {
     /// `(`.
     pub opening: u32,
@@ -385,9 +568,19 @@ pub struct ArgumentList {
     pub closing: u32,
 }
 
+impl Drop for ArgumentList {
+    #[cycle(expression)]
+    fn drop(self) {
+        let ArgumentList {
+            opening: _,
+            arguments: _,
+            closing: _,
+        } = self;
+    }
+}
+
 /// An argument of a call, or a connection or an override of an instance (13.5.4, 23.3.2).
 #[cycle(expression)]
-#[derive(Drop)]
 pub enum Arg {
     /// `.*`.
     Wildcard {
@@ -434,9 +627,33 @@ pub enum Arg {
     Empty,
 }
 
+impl Drop for Arg {
+    #[cycle(expression)]
+    fn drop(self) {
+        match self {
+            Arg::Wildcard { token: _ } => {}
+            Arg::Implicit { dot: _, name: _ } => {}
+            Arg::Unconnected {
+                dot: _,
+                name: _,
+                opening: _,
+                closing: _,
+            } => {}
+            Arg::Named {
+                dot: _,
+                name: _,
+                opening: _,
+                value: _,
+                closing: _,
+            } => {}
+            Arg::Ordered { value: _ } => {}
+            Arg::Empty => {}
+        }
+    }
+}
+
 /// A value, or all values between two bounds (11.4.13).
 #[cycle(expression)]
-#[derive(Drop)]
 pub enum ValueRange {
     /// `[a:b]`.
     Between {
@@ -458,9 +675,24 @@ pub enum ValueRange {
     },
 }
 
+impl Drop for ValueRange {
+    #[cycle(expression)]
+    fn drop(self) {
+        match self {
+            ValueRange::Between {
+                opening: _,
+                low: _,
+                colon: _,
+                high: _,
+                closing: _,
+            } => {}
+            ValueRange::Value { value: _ } => {}
+        }
+    }
+}
+
 /// An assignment pattern (10.9).
 #[cycle(expression)]
-#[derive(Drop)]
 pub struct Pattern {
     /// `'{`.
     pub opening: u32,
@@ -470,9 +702,19 @@ pub struct Pattern {
     pub closing: u32,
 }
 
+impl Drop for Pattern {
+    #[cycle(expression)]
+    fn drop(self) {
+        let Pattern {
+            opening: _,
+            items: _,
+            closing: _,
+        } = self;
+    }
+}
+
 /// An item of an assignment pattern (10.9).
 #[cycle(expression)]
-#[derive(Drop)]
 pub enum PatternItem {
     /// The value of all that is not given otherwise: `default: e`.
     Default {
@@ -508,4 +750,29 @@ pub enum PatternItem {
         /// `}`.
         closing: u32,
     },
+}
+
+impl Drop for PatternItem {
+    #[cycle(expression)]
+    fn drop(self) {
+        match self {
+            PatternItem::Default {
+                keyword: _,
+                colon: _,
+                value: _,
+            } => {}
+            PatternItem::Value { value: _ } => {}
+            PatternItem::Keyed {
+                key: _,
+                colon: _,
+                value: _,
+            } => {}
+            PatternItem::Repeated {
+                count: _,
+                opening: _,
+                values: _,
+                closing: _,
+            } => {}
+        }
+    }
 }

@@ -12,7 +12,6 @@ use crate::word::{ClockedKeyword, Edge, EventSeparator, Label, Mark, PlainKeywor
 
 /// An item of a module or an interface, or of a generate block (IEEE 1800-2017, A.1.4).
 #[cycle(item)]
-#[derive(Drop)]
 pub enum Item {
     /// `;`.
     Empty {
@@ -109,6 +108,33 @@ pub enum Item {
         /// The instances.
         instantiation: Box<Instantiation>,
     },
+}
+
+impl Drop for Item {
+    #[cycle(item)]
+    fn drop(self) {
+        match self {
+            Item::Empty { semicolon: _ } => {}
+            Item::Import { declaration: _ } => {}
+            Item::Parameters { declaration: _ } => {}
+            Item::Typedef { declaration: _ } => {}
+            Item::Function { function: _ } => {}
+            Item::Genvars { declaration: _ } => {}
+            Item::Net { declaration: _ } => {}
+            Item::Variable { declaration: _ } => {}
+            Item::Data { declaration: _ } => {}
+            Item::Assign { assignments: _ } => {}
+            Item::Clocked { procedure: _ } => {}
+            Item::Plain { procedure: _ } => {}
+            Item::Region { region: _ } => {}
+            Item::LoopGenerate { construct: _ } => {}
+            Item::IfGenerate { construct: _ } => {}
+            Item::CaseGenerate { construct: _ } => {}
+            Item::Modports { declaration: _ } => {}
+            Item::SystemTask { task: _ } => {}
+            Item::Instances { instantiation: _ } => {}
+        }
+    }
 }
 
 impl Item {
@@ -242,7 +268,6 @@ pub struct Event {
 
 /// Items from `generate` to `endgenerate` (27.3).
 #[cycle(item)]
-#[derive(Drop)]
 pub struct GenerateRegion {
     /// `generate`.
     pub keyword: u32,
@@ -252,9 +277,19 @@ pub struct GenerateRegion {
     pub end: u32,
 }
 
+impl Drop for GenerateRegion {
+    #[cycle(item)]
+    fn drop(self) {
+        let GenerateRegion {
+            keyword: _,
+            items: _,
+            end: _,
+        } = self;
+    }
+}
+
 /// A block of a generate construct (27.3).
 #[cycle(item)]
-#[derive(Drop)]
 pub enum GenerateBlock {
     /// `begin` to `end`.
     Block {
@@ -268,9 +303,18 @@ pub enum GenerateBlock {
     },
 }
 
+impl Drop for GenerateBlock {
+    #[cycle(item)]
+    fn drop(self) {
+        match self {
+            GenerateBlock::Block { block: _ } => {}
+            GenerateBlock::Item { item: _ } => {}
+        }
+    }
+}
+
 /// The items of a generate block from `begin` to `end` (27.3).
 #[cycle(item)]
-#[derive(Drop)]
 pub struct GenerateBody {
     /// `begin`.
     pub begin: u32,
@@ -284,9 +328,21 @@ pub struct GenerateBody {
     pub end_label: Option<Label>,
 }
 
+impl Drop for GenerateBody {
+    #[cycle(item)]
+    fn drop(self) {
+        let GenerateBody {
+            begin: _,
+            label: _,
+            items: _,
+            end: _,
+            end_label: _,
+        } = self;
+    }
+}
+
 /// A generate loop: `for (genvar i = 0; i < 4; i++)` (27.4).
 #[cycle(item)]
-#[derive(Drop)]
 pub struct LoopGenerate {
     /// `for`.
     pub keyword: u32,
@@ -314,6 +370,26 @@ pub struct LoopGenerate {
     pub block: GenerateBlock,
 }
 
+impl Drop for LoopGenerate {
+    #[cycle(item)]
+    fn drop(self) {
+        let LoopGenerate {
+            keyword: _,
+            opening: _,
+            genvar: _,
+            name: _,
+            equals: _,
+            start: _,
+            first_semicolon: _,
+            condition: _,
+            second_semicolon: _,
+            step: _,
+            closing: _,
+            block: _,
+        } = self;
+    }
+}
+
 /// The step of a generate loop (27.4).
 #[derive(Drop)]
 pub enum GenvarStep {
@@ -335,7 +411,6 @@ pub enum GenvarStep {
 
 /// A generate `if` (27.5).
 #[cycle(item)]
-#[derive(Drop)]
 pub struct IfGenerate {
     /// `if`.
     pub keyword: u32,
@@ -347,9 +422,20 @@ pub struct IfGenerate {
     pub otherwise: Option<ElseGenerate>,
 }
 
+impl Drop for IfGenerate {
+    #[cycle(item)]
+    fn drop(self) {
+        let IfGenerate {
+            keyword: _,
+            condition: _,
+            chosen: _,
+            otherwise: _,
+        } = self;
+    }
+}
+
 /// `else` and its generate block (27.5).
 #[cycle(item)]
-#[derive(Drop)]
 pub struct ElseGenerate {
     /// `else`.
     pub keyword: u32,
@@ -357,9 +443,18 @@ pub struct ElseGenerate {
     pub block: GenerateBlock,
 }
 
+impl Drop for ElseGenerate {
+    #[cycle(item)]
+    fn drop(self) {
+        let ElseGenerate {
+            keyword: _,
+            block: _,
+        } = self;
+    }
+}
+
 /// A generate `case` (27.5).
 #[cycle(item)]
-#[derive(Drop)]
 pub struct CaseGenerate {
     /// `case`.
     pub keyword: u32,
@@ -371,9 +466,20 @@ pub struct CaseGenerate {
     pub end: u32,
 }
 
+impl Drop for CaseGenerate {
+    #[cycle(item)]
+    fn drop(self) {
+        let CaseGenerate {
+            keyword: _,
+            selector: _,
+            items: _,
+            end: _,
+        } = self;
+    }
+}
+
 /// An item of a generate `case` (27.5).
 #[cycle(item)]
-#[derive(Drop)]
 pub enum CaseGenerateItem {
     /// The block that is taken where no label fits.
     Default {
@@ -393,6 +499,24 @@ pub enum CaseGenerateItem {
         /// The block.
         block: GenerateBlock,
     },
+}
+
+impl Drop for CaseGenerateItem {
+    #[cycle(item)]
+    fn drop(self) {
+        match self {
+            CaseGenerateItem::Default {
+                keyword: _,
+                colon: _,
+                block: _,
+            } => {}
+            CaseGenerateItem::Labels {
+                labels: _,
+                colon: _,
+                block: _,
+            } => {}
+        }
+    }
 }
 
 /// Modports: `modport m(input a), n(output a);` (25.5).

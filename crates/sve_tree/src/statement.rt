@@ -16,7 +16,6 @@ use sve_bytes::Dir;
 
 /// What an assignment writes to: a name with selects, or several of them in braces (IEEE 1800-2017, A.8.5).
 #[cycle(left_side)]
-#[derive(Drop)]
 pub enum LeftSide {
     /// A name.
     Name {
@@ -30,6 +29,19 @@ pub enum LeftSide {
         /// The braces and what stands in them.
         concatenation: LeftConcatenation,
     },
+}
+
+impl Drop for LeftSide {
+    #[cycle(left_side)]
+    fn drop(self) {
+        match self {
+            LeftSide::Name {
+                name: _,
+                selects: _,
+            } => {}
+            LeftSide::Concatenation { concatenation: _ } => {}
+        }
+    }
 }
 
 impl LeftSide {
@@ -47,7 +59,6 @@ impl LeftSide {
 
 /// Left sides in braces, the most significant first (11.4.12).
 #[cycle(left_side)]
-#[derive(Drop)]
 pub struct LeftConcatenation {
     /// `{`.
     pub opening: u32,
@@ -55,6 +66,17 @@ pub struct LeftConcatenation {
     pub sides: Row<LeftSide>,
     /// `}`.
     pub closing: u32,
+}
+
+impl Drop for LeftConcatenation {
+    #[cycle(left_side)]
+    fn drop(self) {
+        let LeftConcatenation {
+            opening: _,
+            sides: _,
+            closing: _,
+        } = self;
+    }
 }
 
 /// How a name is changed: by a value or by one (10.4 and 11.4.2).
@@ -98,7 +120,6 @@ pub enum StatementTail {
 
 /// A statement (clause 12, A.6).
 #[cycle(statement)]
-#[derive(Drop)]
 pub enum Stmt {
     /// `;`.
     Empty {
@@ -190,9 +211,44 @@ pub enum Stmt {
     },
 }
 
+impl Drop for Stmt {
+    #[cycle(statement)]
+    fn drop(self) {
+        match self {
+            Stmt::Empty { semicolon: _ } => {}
+            Stmt::Block { block: _ } => {}
+            Stmt::If {
+                uniqueness: _,
+                statement: _,
+            } => {}
+            Stmt::Case {
+                uniqueness: _,
+                statement: _,
+            } => {}
+            Stmt::For { statement: _ } => {}
+            Stmt::Foreach { statement: _ } => {}
+            Stmt::Loop { statement: _ } => {}
+            Stmt::Do { statement: _ } => {}
+            Stmt::Return { statement: _ } => {}
+            Stmt::Break {
+                keyword: _,
+                semicolon: _,
+            } => {}
+            Stmt::Continue {
+                keyword: _,
+                semicolon: _,
+            } => {}
+            Stmt::SystemTask { task: _ } => {}
+            Stmt::VoidCall { call: _ } => {}
+            Stmt::Step { statement: _ } => {}
+            Stmt::Concatenation { assignment: _ } => {}
+            Stmt::Name { statement: _ } => {}
+        }
+    }
+}
+
 /// Statements and declarations from `begin` to `end` (9.3.1).
 #[cycle(statement)]
-#[derive(Drop)]
 pub struct Block {
     /// `begin`.
     pub begin: u32,
@@ -206,9 +262,21 @@ pub struct Block {
     pub end_label: Option<Label>,
 }
 
+impl Drop for Block {
+    #[cycle(statement)]
+    fn drop(self) {
+        let Block {
+            begin: _,
+            label: _,
+            items: _,
+            end: _,
+            end_label: _,
+        } = self;
+    }
+}
+
 /// A declaration or a statement of a block or of a function (A.2.8).
 #[cycle(statement)]
-#[derive(Drop)]
 pub enum BlockItem {
     /// A declaration with a lifetime: `automatic int i;` (6.21).
     Local {
@@ -254,6 +322,25 @@ pub enum BlockItem {
     },
 }
 
+impl Drop for BlockItem {
+    #[cycle(statement)]
+    fn drop(self) {
+        match self {
+            BlockItem::Local {
+                lifetime: _,
+                declaration: _,
+            } => {}
+            BlockItem::Variable { declaration: _ } => {}
+            BlockItem::Data { declaration: _ } => {}
+            BlockItem::Parameters { declaration: _ } => {}
+            BlockItem::Typedef { declaration: _ } => {}
+            BlockItem::NamedData { declaration: _ } => {}
+            BlockItem::Name { statement: _ } => {}
+            BlockItem::Statement { statement: _ } => {}
+        }
+    }
+}
+
 /// A declaration of a block that begins with a type's name: `t [3:0] a = 1, b;` (6.8). Of the selects behind the name, each has
 /// to be a dimension.
 #[derive(Drop)]
@@ -270,7 +357,6 @@ pub struct NamedDeclaration {
 
 /// `if` with its statement, and `else` (12.4).
 #[cycle(statement)]
-#[derive(Drop)]
 pub struct IfStatement {
     /// `if`.
     pub keyword: u32,
@@ -282,9 +368,20 @@ pub struct IfStatement {
     pub otherwise: Option<ElseBranch>,
 }
 
+impl Drop for IfStatement {
+    #[cycle(statement)]
+    fn drop(self) {
+        let IfStatement {
+            keyword: _,
+            condition: _,
+            chosen: _,
+            otherwise: _,
+        } = self;
+    }
+}
+
 /// `else` and its statement (12.4).
 #[cycle(statement)]
-#[derive(Drop)]
 pub struct ElseBranch {
     /// `else`.
     pub keyword: u32,
@@ -292,9 +389,18 @@ pub struct ElseBranch {
     pub statement: Box<Stmt>,
 }
 
+impl Drop for ElseBranch {
+    #[cycle(statement)]
+    fn drop(self) {
+        let ElseBranch {
+            keyword: _,
+            statement: _,
+        } = self;
+    }
+}
+
 /// A case statement (12.5).
 #[cycle(statement)]
-#[derive(Drop)]
 pub struct CaseStatement {
     /// `case`, `casez` or `casex`.
     pub keyword: Mark<CaseKeyword>,
@@ -306,9 +412,20 @@ pub struct CaseStatement {
     pub end: u32,
 }
 
+impl Drop for CaseStatement {
+    #[cycle(statement)]
+    fn drop(self) {
+        let CaseStatement {
+            keyword: _,
+            selector: _,
+            items: _,
+            end: _,
+        } = self;
+    }
+}
+
 /// An item of a case statement (12.5).
 #[cycle(statement)]
-#[derive(Drop)]
 pub enum CaseItem {
     /// What is done where no label fits.
     Default {
@@ -330,9 +447,26 @@ pub enum CaseItem {
     },
 }
 
+impl Drop for CaseItem {
+    #[cycle(statement)]
+    fn drop(self) {
+        match self {
+            CaseItem::Default {
+                keyword: _,
+                colon: _,
+                statement: _,
+            } => {}
+            CaseItem::Labels {
+                labels: _,
+                colon: _,
+                statement: _,
+            } => {}
+        }
+    }
+}
+
 /// A for loop (12.7.1).
 #[cycle(statement)]
-#[derive(Drop)]
 pub struct ForStatement {
     /// `for`.
     pub keyword: u32,
@@ -352,6 +486,23 @@ pub struct ForStatement {
     pub closing: u32,
     /// The statement.
     pub body: Box<Stmt>,
+}
+
+impl Drop for ForStatement {
+    #[cycle(statement)]
+    fn drop(self) {
+        let ForStatement {
+            keyword: _,
+            opening: _,
+            initialization: _,
+            first_semicolon: _,
+            condition: _,
+            second_semicolon: _,
+            steps: _,
+            closing: _,
+            body: _,
+        } = self;
+    }
 }
 
 /// What a for loop does at first (12.7.1).
@@ -422,7 +573,6 @@ pub enum ForStep {
 
 /// A loop over the elements of an array: `foreach (a[i, j])` (12.7.3).
 #[cycle(statement)]
-#[derive(Drop)]
 pub struct ForeachStatement {
     /// `foreach`.
     pub keyword: u32,
@@ -442,9 +592,24 @@ pub struct ForeachStatement {
     pub body: Box<Stmt>,
 }
 
+impl Drop for ForeachStatement {
+    #[cycle(statement)]
+    fn drop(self) {
+        let ForeachStatement {
+            keyword: _,
+            opening: _,
+            array: _,
+            opening_bracket: _,
+            names: _,
+            closing_bracket: _,
+            closing: _,
+            body: _,
+        } = self;
+    }
+}
+
 /// `while` or `repeat` with its statement (12.7.2 and 12.7.4).
 #[cycle(statement)]
-#[derive(Drop)]
 pub struct LoopStatement {
     /// `while` or `repeat`.
     pub keyword: Mark<LoopKeyword>,
@@ -454,9 +619,19 @@ pub struct LoopStatement {
     pub body: Box<Stmt>,
 }
 
+impl Drop for LoopStatement {
+    #[cycle(statement)]
+    fn drop(self) {
+        let LoopStatement {
+            keyword: _,
+            condition: _,
+            body: _,
+        } = self;
+    }
+}
+
 /// `do`, a statement and its condition (12.7.5).
 #[cycle(statement)]
-#[derive(Drop)]
 pub struct DoStatement {
     /// `do`.
     pub keyword: u32,
@@ -468,6 +643,19 @@ pub struct DoStatement {
     pub condition: Parenthesized,
     /// `;`.
     pub semicolon: u32,
+}
+
+impl Drop for DoStatement {
+    #[cycle(statement)]
+    fn drop(self) {
+        let DoStatement {
+            keyword: _,
+            body: _,
+            while_keyword: _,
+            condition: _,
+            semicolon: _,
+        } = self;
+    }
 }
 
 /// `return` (12.8).
