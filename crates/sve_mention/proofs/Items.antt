@@ -39,7 +39,7 @@ use Rattle.sve_mention.specs.InItems.{item_mentions, generate_block_mentions, if
 
 -- ---- rows
 
-items_are : {n : _} (row : Row_of-Item n) → items_mentions row ≡ flat_map item_mentions (items-the_row-Item n row)
+pub items_are : {n : _} (row : Row_of-Item n) → items_mentions row ≡ flat_map item_mentions (items-the_row-Item n row)
 unfolding item_mentions
 items_are end_of-Item = refl
 items_are (more_of-Item item rest) = ap (λ (ms : List Mention). item_mentions item ++ ms) (items_are rest)
@@ -47,7 +47,7 @@ items_are (more_of-Item item rest) = ap (λ (ms : List Mention). item_mentions i
 items_of : (xs : Vec Item) → items_mentions (hidden-the_row-Item-0 xs) ≡ flat_map item_mentions xs.items
 items_of xs = items_are (hidden-the_row-Item-0 xs) ∙ ap (flat_map item_mentions) (items_hidden-the_row-Item-0 xs)
 
-case_items_are : {n : _} (row : Row_of-CaseGenerateItem n) → case_generate_items_mentions row ≡ flat_map case_generate_item_mentions (items-the_row-CaseGenerateItem n row)
+pub case_items_are : {n : _} (row : Row_of-CaseGenerateItem n) → case_generate_items_mentions row ≡ flat_map case_generate_item_mentions (items-the_row-CaseGenerateItem n row)
 unfolding item_mentions
 case_items_are end_of-CaseGenerateItem = refl
 case_items_are (more_of-CaseGenerateItem item rest) = ap (λ (ms : List Mention). case_generate_item_mentions item ++ ms) (case_items_are rest)

@@ -3,8 +3,10 @@
 
 mod element;
 mod item;
+mod laws;
 mod mention;
 mod statement;
 
 pub use element::{lacks_default, mentions};
+pub use laws::{instances_are_mentioned, lacking_defaults_are_told};
 pub use mention::Mention;
