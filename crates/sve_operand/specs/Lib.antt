@@ -1,0 +1,3 @@
+pub mod Sharing
+pub mod Meaning
+pub mod Pending
