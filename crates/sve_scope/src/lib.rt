@@ -1,0 +1,18 @@
+//! Scopes, and what a plain name stands for in them (IEEE 1800-2017, 6.5, 23.9 and 26.3).
+#![tactic(auto)]
+
+mod declared;
+mod found;
+mod import;
+mod scope;
+mod shared_type;
+mod spot;
+mod what;
+
+pub use declared::Declared;
+pub use found::{Found, Through, lookup};
+pub use import::{Explicit, Wildcard};
+pub use scope::{Entered, Scope};
+pub use shared_type::SharedType;
+pub use spot::Spot;
+pub use what::{Constant, FaceName, What};
