@@ -91,7 +91,7 @@ from before (source ∷ sources) roots notes =
 all_gathered : (sources : List FileElement) → fold after nothing_gathered sources ≡ known_after sources (roots_of [] sources) (notes_of [] sources)
 all_gathered sources = from [] sources [] []
 
-some_found : {X : Type 0} (p : X → Bool) (xs : List X) → is_some (find p xs) ≡ list_any p xs
+pub some_found : {X : Type 0} (p : X → Bool) (xs : List X) → is_some (find p xs) ≡ list_any p xs
 some_found p [] = refl
 some_found p (x ∷ xs) = elim (p x) as (λ v. is_some (cond v (Some x) (find p xs)) ≡ (v || list_any p xs)) [ true ↦ refl | false ↦ some_found p xs ]
 

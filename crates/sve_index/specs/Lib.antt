@@ -5,3 +5,4 @@ pub mod Instances
 pub mod Labels
 pub mod Gathered
 pub mod Whole
+pub mod Tops
