@@ -1,0 +1,5 @@
+pub mod Places
+pub mod Next
+pub mod Steps
+pub mod Numbered
+pub mod Early
