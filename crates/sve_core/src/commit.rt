@@ -1,0 +1,25 @@
+//! What commits and asks are told.
+use sve_bytes::List;
+use sve_text::Why;
+
+/// What a commit is told (own).
+#[derive(Clone, Copy, Debug, PartialEq, Eq)]
+pub enum Commit {
+    /// It is entry `r` of the history, and made revision `r`. Entries count from 1.
+    Accepted { r: u64 },
+    /// The files of revision `r` refuse it: edit `edit`, counted from 1, has this reason against it.
+    Refused { r: u64, edit: u32, why: Why },
+    /// The history may have no more entries.
+    Full,
+}
+
+/// What an ask is told (own).
+#[derive(Drop)]
+pub enum Outcome {
+    /// These lines, each without the line feed that ends it.
+    Answered(List<List<u8>>),
+    /// It costs more than its budget.
+    Spent { budget: u32 },
+    /// It was asked at revision `base`, and its client was told of revision `newer` before it was answered.
+    Cancelled { base: u64, newer: u64 },
+}

@@ -1,0 +1,5 @@
+pub mod Made
+pub mod Snapshots
+pub mod Told
+pub mod Tries
+pub mod Values
