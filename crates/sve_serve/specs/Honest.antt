@@ -1,16 +1,17 @@
 -- When records tell the truth about a history (own).
-use Rattle.std.specs.Prelude.{ℕ, ◌+◌, ◌-◌, ◌<◌, ◌≤◌, ◌≡◌, Bool, true, false, List, [], ◌∷◌, Option, Some, None, max, length, slice_get, slice_index_or, unwrap_or, IsTrue}
+use Rattle.std.specs.Prelude.{ℕ, ◌+◌, ◌-◌, ◌<◌, ◌≤◌, ◌≡◌, Bool, true, false, List, [], ◌∷◌, Option, Some, None, max, length, slice_get, slice_index_or, unwrap_or, map, IsTrue}
 use Rattle.std.specs.List.{AllByRecursion}
 use Rattle.sve_text.specs.declared.edit.Edit.{Edit}
 use Rattle.sve_text.specs.Files.{FilesValue}
 use Rattle.sve_text.specs.Refusals.{refusal_of}
+use Rattle.sve_history.specs.declared.entry.Entry.{Entry as Made}
+use Rattle.sve_history.specs.Histories.{Table, entry_by, files_at, commands_of, IsLegal}
 use Rattle.sve_script.specs.declared.sessions.Script.{Script}
 use Rattle.sve_command.specs.declared.commands.Command.{Command}
 use Rattle.sve_command.specs.declared.commands.Command.TheVariants.{Commit, Ask}
 use Rattle.sve_report.specs.declared.entry.Entry.{Entry}
 use Rattle.sve_report.specs.declared.record.Record.{Record}
 use Rattle.sve_report.specs.declared.record.Record.TheVariants.{Accepted, Refused, Answered}
-use Rattle.sve_serve.specs.Histories.{Table, files_at, commands_of, IsLegal}
 use Rattle.sve_serve.specs.Answers.{Done, IsOutcome}
 
 -- the command of a client; both count from 1
@@ -26,9 +27,17 @@ edits_in_command None = []
 abbrev pub edits_in : List (List Command) → Table
 edits_in clients client command = edits_in_command (command_in clients client command)
 
+-- the entries with the edits that a table has for their commands
+abbrev pub with_edits : Table → List Entry → List Made
+with_edits table entries = map (λ entry. entry_by table entry.client entry.command) entries
+
+-- the entries with the edits of a session
+abbrev pub session_entries : Script → List Entry → List Made
+session_entries script entries = with_edits (edits_in script.clients) entries
+
 -- the files of revision r of a session with this history
 abbrev pub session_files : Script → List Entry → ℕ → FilesValue
-session_files script entries r = files_at (edits_in script.clients) script.files entries r
+session_files script entries r = files_at script.files (session_entries script entries) r
 
 -- the budget of an ask that gives none
 abbrev pub default_budget : ℕ
@@ -69,7 +78,7 @@ accepted_from j (Answered r lines ∷ recs) = accepted_from (j + 1) recs
 -- each client's records are honest, from client i on, and its entries in the history are exactly its accepted commands
 abbrev pub AreHonestFrom : Script → List Entry → ℕ → List (List Command) → List (List Record) → Type 0
 AreHonestFrom script entries i [] [] = Unit {0}
-AreHonestFrom script entries i (commands ∷ clients) (recs ∷ records) = Walks script entries i 1 0 commands recs × (commands_of i entries ≡ accepted_from 1 recs) × AreHonestFrom script entries (i + 1) clients records
+AreHonestFrom script entries i (commands ∷ clients) (recs ∷ records) = Walks script entries i 1 0 commands recs × (commands_of i (session_entries script entries) ≡ accepted_from 1 recs) × AreHonestFrom script entries (i + 1) clients records
 AreHonestFrom script entries i [] (recs ∷ records) = ⊥
 AreHonestFrom script entries i (commands ∷ clients) [] = ⊥
 
@@ -84,6 +93,6 @@ IsOfSession clients entry = (1 ≤ entry.client) × (1 ≤ entry.command) × IsT
 
 -- The records are honest for the history: it is legal and holds commits of the session alone, and each client's records tell of it.
 pub record Honest (script : Script) (entries : List Entry) (records : List (List Record)) : Type 0 where
-  pub legal : IsLegal (edits_in script.clients) script.files entries
+  pub legal : IsLegal (record { opening = script.files; entries = session_entries script entries })
   pub theirs : AllByRecursion (IsOfSession script.clients) entries
   pub told : AreHonestFrom script entries 1 script.clients records

@@ -1,7 +1,6 @@
 pub mod Answers
 pub mod Endings
 pub mod ExitCodes
-pub mod Histories
 pub mod Honest
 pub mod Revisions
 pub mod Runs

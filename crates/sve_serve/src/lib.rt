@@ -2,7 +2,6 @@
 #![tactic(auto)]
 
 mod answering;
-mod history;
 mod running;
 mod serving;
 mod status;

@@ -1,20 +1,22 @@
 //! A run of a session: each command in order.
-ghost use Rattle.std.specs.Prelude.{◌≡◌, ◌<◌, ◌≤◌, ◌^◌, None, true, All, length, IfOk, OnOk};
+ghost use Rattle.std.specs.Prelude.{◌≡◌, ◌+◌, ◌<◌, ◌≤◌, ◌^◌, [], None, true, All, length, IfOk, OnOk};
 ghost use Rattle.std.specs.List.{list_all};
 ghost use Rattle.sve_text.specs.Refusals.{refusal_of};
+ghost use Rattle.sve_history.specs.Histories.{IsOpening, newest_files, commands_of};
 ghost use Rattle.sve_command.specs.Sizes.{edit_count};
 ghost use Rattle.sve_script.specs.declared.sessions.TheConstants.{MAX_EDITS};
 ghost use Rattle.sve_script.specs.Limits.{AreInLimits};
 ghost use Rattle.sve_serve.specs.Honest.{Honest};
-ghost use Rattle.sve_serve.specs.Serial.{committed, commit_record, revisions_after, AreTold, revisions_after_one, IsToldOne};
+ghost use Rattle.sve_serve.specs.Revisions.{revisions_of};
+ghost use Rattle.sve_serve.specs.Serial.{committed, commit_record, entry_of, revisions_after, AreTold, revisions_after_one, IsToldOne};
 ghost use Rattle.sve_serve.specs.Unbuilt.{first_later, is_built_command};
 
 use crate::answering::answer_lines;
-use crate::history::History;
 use std::alloc::Global;
 use sve_bytes::{List, NoMemory};
 use sve_command::Command;
-use sve_report::{Entry, Record};
+use sve_history::{Entry, History};
+use sve_report::{Entry as ToldEntry, Record};
 use sve_script::Script;
 use sve_text::{Edit, Refusal, refusal};
 
@@ -29,7 +31,8 @@ pub struct Ran {
 pub fn run(alloc: Global, script: Script) -> Result<Ran, NoMemory>
     requires limits { AreInLimits script.clients }
     requires nothing_later { first_later script.clients ≡ None }
-    ensures { IfOk result (λ ran. Honest script ran.history.entries ran.records) }
+    requires opening { IsOpening script.files }
+    ensures { IfOk result (λ ran. Honest script (revisions_of ran.history).entries ran.records) }
 {
     let Script { files, clients } = script;
     let mut history = History::of(alloc, files);
@@ -40,47 +43,63 @@ pub fn run(alloc: Global, script: Script) -> Result<Ran, NoMemory>
     })
 }
 
-/// Runs the commands of a client, one after another.
+/// The entries of a history, as a report tells them.
+pub fn told_entries(alloc: Global, history: &History) -> Result<Vec<ToldEntry>, NoMemory>
+    ensures { IfOk result (λ entries. entries.items ≡ (revisions_of history.now).entries) }
+{
+    let mut entries = Vec::new(alloc);
+    'entries: for r in 0..history.len() {
+        let entry = history.entry(r + 1);
+        entries.push(ToldEntry {
+            client: entry.client as u64,
+            command: entry.command as u64,
+        })?;
+    }
+    Ok(entries)
+}
+
+/// Runs the commands of a client that has no entry yet, one after another.
 fn run_client(
     alloc: Global,
     history: &mut History,
-    client: u64,
+    client: u32,
     commands: &[Command],
 ) -> Result<List<Record>, NoMemory>
     requires built { list_all is_built_command commands.now ≡ true }
     requires few_edits { All (λ command. edit_count command ≤ MAX_EDITS) commands.now }
-    ensures records { IfOk result (λ records. AreTold history.old client 1 commands.now records) }
-    ensures history { OnOk result (history.new ≡ revisions_after history.old client 1 commands.now) }
+    requires few_commands { length commands.now < 2 ^ 32 }
+    requires first { commands_of client history.old.entries ≡ [] }
+    ensures records { IfOk result (λ records. AreTold (revisions_of history.old) client 1 commands.now records) }
+    ensures history { OnOk result (revisions_of history.new ≡ revisions_after (revisions_of history.old) client 1 commands.now) }
 {
     let mut records = Vec::new(alloc);
     for (j, command) in commands.iter().enumerate() {
-        let entry = Entry {
-            client,
-            command: j as u64 + 1,
-        };
-        records.push(run_command(alloc, history, entry, command)?)?;
+        records.push(run_command(alloc, history, client, j as u32 + 1, command)?)?;
     }
     Ok(List::of(records))
 }
 
-/// Runs one command at the newest revision.
+/// Runs a command at the newest revision. Its number is above those of the client's entries.
 fn run_command(
     alloc: Global,
     history: &mut History,
-    entry: Entry,
+    client: u32,
+    number: u32,
     command: &Command,
 ) -> Result<Record, NoMemory>
     requires built { is_built_command command.now ≡ true }
     requires few_edits { edit_count command.now ≤ MAX_EDITS }
-    ensures told { IfOk result (λ told. IsToldOne history.old command.now told) }
-    ensures history { OnOk result (history.new ≡ revisions_after_one history.old entry command.now) }
+    requires rises { All (λ earlier. earlier < number) (commands_of client history.old.entries) }
+    ensures told { IfOk result (λ told. IsToldOne (revisions_of history.old) command.now told) }
+    ensures history { OnOk result (revisions_of history.new ≡ revisions_after_one (revisions_of history.old) (entry_of client number) command.now) }
+    ensures rises { OnOk result (All (λ earlier. earlier < number + 1) (commands_of client history.new.entries)) }
 {
     match command {
-        Command::Commit(edits) => run_commit(alloc, history, entry, edits.items()),
+        Command::Commit(edits) => run_commit(alloc, history, client, number, edits.items()),
         Command::Ask { query, .. } => {
             let lines = answer_lines(alloc, history.newest(), query)?;
             Ok(Record::Answered {
-                r: history.revision(),
+                r: history.len(),
                 lines,
             })
         }
@@ -91,17 +110,21 @@ fn run_command(
 fn run_commit(
     alloc: Global,
     history: &mut History,
-    entry: Entry,
+    client: u32,
+    number: u32,
     edits: &[Edit],
 ) -> Result<Record, NoMemory>
     requires few { length edits.now < 2 ^ 32 }
-    ensures told { IfOk result (λ told. told ≡ commit_record history.old (refusal_of history.old.newest edits.now)) }
-    ensures history { OnOk result (history.new ≡ committed history.old entry edits.now (refusal_of history.old.newest edits.now)) }
+    requires rises { All (λ earlier. earlier < number) (commands_of client history.old.entries) }
+    ensures told { IfOk result (λ told. told ≡ commit_record (revisions_of history.old) (refusal_of (newest_files history.old) edits.now)) }
+    ensures history { OnOk result (revisions_of history.new ≡ committed (revisions_of history.old) (entry_of client number) edits.now (refusal_of (newest_files history.old) edits.now)) }
+    ensures rises { OnOk result (All (λ earlier. earlier < number + 1) (commands_of client history.new.entries)) }
 {
     if let Some(Refusal { edit, why }) = refusal(history.newest(), edits) {
-        let r = history.revision();
+        let r = history.len();
         return Ok(Record::Refused { r, edit, why });
     }
-    let r = history.commit(alloc, entry, edits)?;
-    Ok(Record::Accepted { r })
+    let entry = Entry::of(alloc, client, number, edits)?;
+    history.push(alloc, entry)?;
+    Ok(Record::Accepted { r: history.len() })
 }

@@ -1,5 +1,6 @@
 //! The whole program over any source and sink.
 ghost use Rattle.std.specs.Prelude.{◌≡◌, ℕ, ◌+◌, ◌<◌, ◌≤◌, ◌⊎◌, ◌++◌, List, [], Some, None, IfOk, IfSome, length, map, take, string_bytes};
+ghost use Rattle.sve_history.specs.Histories.{IsOpening};
 ghost use Rattle.sve_report.specs.declared.entry.Entry.{Entry};
 ghost use Rattle.sve_report.specs.declared.record.Record.{Record};
 ghost use Rattle.sve_report.specs.Lines.{ended};
@@ -15,7 +16,7 @@ ghost use Rattle.sve_serve.specs.Runs.{max_session, usage_line, too_large_line, 
 ghost use Rattle.sve_serve.specs.Unbuilt.{first_later};
 ghost use Rattle.sve_serve.specs.Words.{run, usage, spoken};
 
-use crate::running::run;
+use crate::running::{run, told_entries};
 use crate::status::Status;
 use crate::transfer::{ReadError, read_session, write_text};
 use crate::unbuilt::first_later;
@@ -173,13 +174,15 @@ fn reply_to(alloc: Global, bytes: Vec<u8>) -> Result<Reply, NoMemory>
 fn report_of(alloc: Global, script: Script) -> Result<Reply, NoMemory>
     requires limits { AreInLimits script.clients }
     requires nothing_later { first_later script.clients ≡ None }
+    requires opening { IsOpening script.files }
     ensures status { IfOk result (λ reply. reply.status ≡ Status.Done) }
     ensures text { IfOk result (λ reply. (entries : List Entry) × (records : List (List Record)) × Honest script entries records × (reply.text.items ≡ report entries records)) }
 {
     let ran = run(alloc, script)?;
+    let entries = told_entries(alloc, &ran.history)?;
     Ok(Reply {
         status: Status::Done,
-        text: report_text(alloc, ran.history.entries(), ran.records.items())?,
+        text: report_text(alloc, &entries, ran.records.items())?,
     })
 }
 

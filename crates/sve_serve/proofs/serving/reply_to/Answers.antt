@@ -3,6 +3,7 @@ use Rattle.sve_script.specs.Session.{IsSession}
 use Rattle.sve_serve.specs.Runs.{later_line}
 use Rattle.sve_serve.specs.Unbuilt.{first_later}
 use Rattle.sve_serve.proofs.Endings.{refused_output}
+use Rattle.sve_serve.proofs.SerialRuns.{session_opening}
 use Rattle.sve_serve.proofs.serving.reply_to.Goals as goal
 
 pub returns-in-Some : goal.returns-in-Some
@@ -11,3 +12,7 @@ returns-in-Some c =
     let session : IsSession c.args.bytes.items c.in-Ok.script = subst (λ (b : List ℕ). IsSession b c.in-Ok.script) c.deref.ensures.value c.in-Ok.ensures.session in
     let later : first_later c.in-Ok.script.clients ≡ Some path = cc (c.in_ok-path-in-Ok.ensures, c.in-Some.is, c.items.ensures) in
     refused_output c.args.bytes.items (later_line path) c.refusal_at.result c.refusal_at.ensures (inr (inr (inr (path, (c.in-Ok.script, session, later), refl))))
+
+pub report_of-requires-clause-opening : goal.report_of-requires-clause-opening
+report_of-requires-clause-opening c =
+    session_opening c.args.bytes.items c.in-Ok.script (subst (λ (b : List ℕ). IsSession b c.in-Ok.script) c.deref.ensures.value c.in-Ok.ensures.session)
