@@ -4,9 +4,9 @@
 //!   with the byte that it begins at.
 use std::alloc::Global;
 use std::fmt::Write;
-use sve_bytes::{List, Name, NetType, NoMemory};
-use sve_origin::{Expanded, Output};
-use sve_row::{decoded, spell, word};
+use sve_bytes::{List, NetType, NoMemory};
+use sve_origin::{Expanded, Output, Segment};
+use sve_row::{add_number, decoded, fields_of, name_of, offset_of, spell, word};
 
 /// Adds the piece that a field writes, and says whether there is one.
 fn is_added(alloc: Global, output: &mut Output, field: &str) -> Result<bool, NoMemory> {
@@ -14,7 +14,10 @@ fn is_added(alloc: Global, output: &mut Output, field: &str) -> Result<bool, NoM
     let (file, rest) = word(rest);
     let (offset, how) = word(rest);
     let bytes = decoded(alloc, bytes)?;
-    let (Ok(file), Ok(offset)) = (Name::of(alloc, file.as_bytes()), offset.parse::<u32>()) else {
+    let Some(offset) = offset_of(offset) else {
+        return Ok(false);
+    };
+    let Some(file) = name_of(alloc, file.as_bytes())? else {
         return Ok(false);
     };
     let total = output.len();
@@ -25,10 +28,41 @@ fn is_added(alloc: Global, output: &mut Output, field: &str) -> Result<bool, NoM
     Ok(true)
 }
 
+/// Adds a segment, with the byte that it begins at.
+fn add_segment(out: &mut String, segment: &Segment) -> Result<(), NoMemory> {
+    out.push_str(", ")?;
+    add_number(out, segment.from as usize)?;
+    out.push(' ')?;
+    spell(out, segment.place.file.bytes())?;
+    out.push(' ')?;
+    add_number(out, segment.place.offset as usize)?;
+    out.push_str(if segment.copied {
+        " copied"
+    } else {
+        " written"
+    })
+}
+
+/// The text, its segments, and how many diagnostics and which net types it has.
+fn pieces_text(alloc: Global, expanded: &Expanded) -> Result<String, NoMemory> {
+    let mut out = String::new(alloc);
+    spell(&mut out, expanded.bytes())?;
+    for segment in expanded.segments() {
+        add_segment(&mut out, segment)?;
+    }
+    out.push_str(", ")?;
+    add_number(&mut out, expanded.diags().len())?;
+    out.push_str(" diagnostics")?;
+    for (at, net_type) in expanded.net_types() {
+        write!(out, ", {net_type:?} from {at}")?;
+    }
+    Ok(out)
+}
+
 /// The answer to a row `pieces`.
 pub fn pieces_row(alloc: Global, row: &str) -> Result<Option<String>, NoMemory> {
     let mut output = Output::new(alloc);
-    for field in row.split(" | ") {
+    for field in &fields_of(alloc, row)? {
         if !is_added(alloc, &mut output, field)? {
             return Ok(None);
         }
@@ -36,20 +70,5 @@ pub fn pieces_row(alloc: Global, row: &str) -> Result<Option<String>, NoMemory> 
     let mut net_types = Vec::new(alloc);
     net_types.push((2, NetType::None))?;
     let expanded = Expanded::of(output, List::of(Vec::new(alloc)), List::of(net_types));
-    let mut out = String::new(alloc);
-    spell(&mut out, expanded.bytes())?;
-    for segment in expanded.segments() {
-        let from = segment.from;
-        write!(out, ", {from} ")?;
-        spell(&mut out, segment.place.file.bytes())?;
-        let offset = segment.place.offset;
-        let how = if segment.copied { "copied" } else { "written" };
-        write!(out, " {offset} {how}")?;
-    }
-    let diags = expanded.diags().len();
-    write!(out, ", {diags} diagnostics")?;
-    for (at, net_type) in expanded.net_types() {
-        write!(out, ", {net_type:?} from {at}")?;
-    }
-    Ok(Some(out))
+    Ok(Some(pieces_text(alloc, &expanded)?))
 }

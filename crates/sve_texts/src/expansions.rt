@@ -4,13 +4,14 @@
 //! - `size TEXT`: the same with the number of bytes in place of the text.
 //! - `origins TEXT | TEXT OF a.svh`: the segments of the expanded text.
 //! - `asked TEXT | TEXT OF a.svh`: its net types with the bytes from which they hold, and the names that were asked for.
-use crate::library::{Library, library_of, name_of};
+use crate::library::{Library, library_of};
 use std::alloc::{AllocError, Global};
 use std::fmt::Write;
 use sve_bytes::NoMemory;
 use sve_diag::print;
+use sve_origin::Segment;
 use sve_prep::{Expanded, Halt, prep};
-use sve_row::spell;
+use sve_row::{add_number, name_of, spell};
 
 /// The expansion of `m.sv`, with the files that it was made from.
 fn expanded(alloc: Global, row: &str) -> Result<Option<(Library, Expanded)>, NoMemory> {
@@ -45,52 +46,75 @@ fn add_diagnostics(
     Ok(())
 }
 
-/// The answer to a row `expand`.
-pub fn expand_row(alloc: Global, row: &str) -> Result<Option<String>, NoMemory> {
-    let Some((library, expanded)) = expanded(alloc, row)? else {
-        return Ok(None);
-    };
+/// The expanded text, and its diagnostics.
+fn expand_text(alloc: Global, library: &Library, expanded: &Expanded) -> Result<String, NoMemory> {
     let mut out = String::from_str(alloc, "`")?;
     spell(&mut out, expanded.bytes())?;
     out.push('`')?;
-    add_diagnostics(alloc, &mut out, &library, &expanded)?;
-    Ok(Some(out))
+    add_diagnostics(alloc, &mut out, library, expanded)?;
+    Ok(out)
+}
+
+/// The answer to a row `expand`.
+pub fn expand_row(alloc: Global, row: &str) -> Result<Option<String>, NoMemory> {
+    match expanded(alloc, row)? {
+        Some((library, expanded)) => Ok(Some(expand_text(alloc, &library, &expanded)?)),
+        None => Ok(None),
+    }
+}
+
+/// The number of bytes, and the diagnostics.
+fn size_text(alloc: Global, library: &Library, expanded: &Expanded) -> Result<String, NoMemory> {
+    let mut out = String::new(alloc);
+    add_number(&mut out, expanded.bytes().len())?;
+    out.push_str(" bytes")?;
+    add_diagnostics(alloc, &mut out, library, expanded)?;
+    Ok(out)
 }
 
 /// The answer to a row `size`.
 pub fn size_row(alloc: Global, row: &str) -> Result<Option<String>, NoMemory> {
-    let Some((library, expanded)) = expanded(alloc, row)? else {
-        return Ok(None);
-    };
-    let count = expanded.bytes().len();
-    let mut out = format!(in alloc; "{count} bytes")?;
-    add_diagnostics(alloc, &mut out, &library, &expanded)?;
-    Ok(Some(out))
+    match expanded(alloc, row)? {
+        Some((library, expanded)) => Ok(Some(size_text(alloc, &library, &expanded)?)),
+        None => Ok(None),
+    }
+}
+
+/// Adds a segment, with the byte that it begins at.
+fn add_segment(out: &mut String, segment: &Segment) -> Result<(), NoMemory> {
+    out.push_str(", ")?;
+    add_number(out, segment.from as usize)?;
+    out.push(' ')?;
+    spell(out, segment.place.file.bytes())?;
+    out.push(' ')?;
+    add_number(out, segment.place.offset as usize)?;
+    out.push_str(if segment.copied {
+        " copied"
+    } else {
+        " written"
+    })
+}
+
+/// The expanded text, and its segments.
+fn origins_text(alloc: Global, expanded: &Expanded) -> Result<String, NoMemory> {
+    let mut out = String::new(alloc);
+    spell(&mut out, expanded.bytes())?;
+    for segment in expanded.segments() {
+        add_segment(&mut out, segment)?;
+    }
+    Ok(out)
 }
 
 /// The answer to a row `origins`.
 pub fn origins_row(alloc: Global, row: &str) -> Result<Option<String>, NoMemory> {
-    let Some((_, expanded)) = expanded(alloc, row)? else {
-        return Ok(None);
-    };
-    let mut out = String::new(alloc);
-    spell(&mut out, expanded.bytes())?;
-    for segment in expanded.segments() {
-        let from = segment.from;
-        write!(out, ", {from} ")?;
-        spell(&mut out, segment.place.file.bytes())?;
-        let offset = segment.place.offset;
-        let how = if segment.copied { "copied" } else { "written" };
-        write!(out, " {offset} {how}")?;
+    match expanded(alloc, row)? {
+        Some((_, expanded)) => Ok(Some(origins_text(alloc, &expanded)?)),
+        None => Ok(None),
     }
-    Ok(Some(out))
 }
 
-/// The answer to a row `asked`.
-pub fn asked_row(alloc: Global, row: &str) -> Result<Option<String>, NoMemory> {
-    let Some((library, expanded)) = expanded(alloc, row)? else {
-        return Ok(None);
-    };
+/// The expanded text, its net types, and the names that were asked for.
+fn asked_text(alloc: Global, library: &Library, expanded: &Expanded) -> Result<String, NoMemory> {
     let mut out = String::new(alloc);
     spell(&mut out, expanded.bytes())?;
     for (at, net_type) in expanded.net_types() {
@@ -101,5 +125,13 @@ pub fn asked_row(alloc: Global, row: &str) -> Result<Option<String>, NoMemory> {
         out.push(' ')?;
         spell(&mut out, name.bytes())?;
     }
-    Ok(Some(out))
+    Ok(out)
+}
+
+/// The answer to a row `asked`.
+pub fn asked_row(alloc: Global, row: &str) -> Result<Option<String>, NoMemory> {
+    match expanded(alloc, row)? {
+        Some((library, expanded)) => Ok(Some(asked_text(alloc, &library, &expanded)?)),
+        None => Ok(None),
+    }
 }

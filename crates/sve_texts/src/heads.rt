@@ -4,14 +4,13 @@
 //! - `copied TEXT`: how many bytes of the text are copied unread.
 //! - `conditional TEXT`: whether the text's backtick begins a directive of conditional compilation.
 use std::alloc::Global;
-use std::fmt::Write;
 use sve_bytes::{Name, NetType, NoMemory};
 use sve_directive::{
     Conditional, Directive, LocalDirective, MacroDirective, MacroName, Refusal, SourceText,
     begins_conditional, plain_len, read_directive,
 };
 use sve_macro::Macro;
-use sve_row::{decoded, spell, yes};
+use sve_row::{add_number, decoded, spell, yes};
 
 /// The word of a net type.
 fn net_type(kind: NetType) -> &'static str {
@@ -34,7 +33,9 @@ fn net_type(kind: NetType) -> &'static str {
 fn add_name(out: &mut String, name: &Name) -> Result<(), NoMemory> {
     let count = name.bytes().len();
     if count > 64 {
-        write!(out, "a name of {count} bytes")
+        out.push_str("a name of ")?;
+        add_number(out, count)?;
+        out.push_str(" bytes")
     } else {
         spell(out, name.bytes())
     }
@@ -119,6 +120,22 @@ fn add_local(out: &mut String, directive: &LocalDirective) -> Result<(), NoMemor
     }
 }
 
+/// The directive or the use with its parts, and how many bytes it takes.
+fn directive_text(alloc: Global, directive: &Directive, len: usize) -> Result<String, NoMemory> {
+    let mut out = String::new(alloc);
+    match directive {
+        Directive::Include(name) => {
+            out.push_str("include ")?;
+            spell(&mut out, name.items())?;
+        }
+        Directive::Local(directive) => add_local(&mut out, directive)?,
+    }
+    out.push_str(", ")?;
+    add_number(&mut out, len)?;
+    out.push_str(" bytes")?;
+    Ok(out)
+}
+
 /// The answer to a row `head`.
 pub fn head_row(alloc: Global, row: &str) -> Result<Option<String>, NoMemory> {
     let text = decoded(alloc, row)?;
@@ -126,22 +143,15 @@ pub fn head_row(alloc: Global, row: &str) -> Result<Option<String>, NoMemory> {
         return Ok(None);
     }
     let (directive, len) = read_directive(alloc, &text)?;
-    let mut out = String::new(alloc);
-    match &directive {
-        Directive::Include(name) => {
-            out.push_str("include ")?;
-            spell(&mut out, name.items())?;
-        }
-        Directive::Local(directive) => add_local(&mut out, directive)?,
-    }
-    write!(out, ", {len} bytes")?;
-    Ok(Some(out))
+    Ok(Some(directive_text(alloc, &directive, len)?))
 }
 
 /// The answer to a row `copied`.
 pub fn copied_row(alloc: Global, row: &str) -> Result<Option<String>, NoMemory> {
     let len = plain_len(&decoded(alloc, row)?);
-    Ok(Some(format!(in alloc; "{len}")?))
+    let mut out = String::new(alloc);
+    add_number(&mut out, len)?;
+    Ok(Some(out))
 }
 
 /// The answer to a row `conditional`.

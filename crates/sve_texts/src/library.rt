@@ -1,8 +1,9 @@
-use std::alloc::{AllocError, Global};
+//! The files of a row.
+use std::alloc::Global;
 use std::sync::Arc;
-use sve_bytes::{BadName, List, Name, NoMemory};
+use sve_bytes::{List, Name, NoMemory};
 use sve_prep::{Halt, Texts};
-use sve_row::decoded;
+use sve_row::{decoded, name_of};
 
 /// The files of a row: `m.sv`, and `a.svh`, which it may include. It notes the names that are asked for.
 #[derive(Drop)]
@@ -41,23 +42,29 @@ impl Texts for Library {
     }
 }
 
-/// The name of these bytes, of which there are 1 to 1,024.
-pub fn name_of(alloc: Global, bytes: &[u8]) -> Result<Option<Name>, NoMemory> {
-    match Name::of(alloc, bytes) {
-        Ok(name) => Ok(Some(name)),
-        Err(BadName::NoMemory) => Err(AllocError),
-        Err(BadName::Empty | BadName::TooLong(_)) => Ok(None),
+/// Adds a file whose text a field spells.
+fn add_file(
+    alloc: Global,
+    files: &mut Vec<(Name, Arc<List<u8>>)>,
+    name: &[u8],
+    field: &str,
+) -> Result<(), NoMemory> {
+    let text = List::of(decoded(alloc, field)?);
+    if let Some(name) = name_of(alloc, name)? {
+        files.push((name, Arc::new(alloc, text)?))?;
     }
+    Ok(())
 }
 
 /// The files whose texts a row spells, the second only where there is a ` | `.
 pub fn library_of(alloc: Global, row: &str) -> Result<Library, NoMemory> {
     let mut files = Vec::new(alloc);
-    for (field, name) in row.split(" | ").zip(["m.sv", "a.svh"]) {
-        if let Some(name) = name_of(alloc, name.as_bytes())? {
-            let text = List::of(decoded(alloc, field)?);
-            files.push((name, Arc::new(alloc, text)?))?;
+    match row.split_once(" | ") {
+        Some((first, second)) => {
+            add_file(alloc, &mut files, b"m.sv", first)?;
+            add_file(alloc, &mut files, b"a.svh", second)?;
         }
+        None => add_file(alloc, &mut files, b"m.sv", row)?,
     }
     Ok(Library {
         files,

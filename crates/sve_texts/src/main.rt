@@ -1,6 +1,6 @@
-//! A table of texts for the preprocessor and the lexer: macros and their uses, heads of texts, expansions and tokens. Each line
-//! of the input is answered by one line: the line itself, `=>`, and what came of it. A line with nothing on it, or that begins
-//! with `#`, is answered by itself. `no such row` is the answer to a line of no form.
+//! A table of texts for the preprocessor: heads of texts, and expansions. Each line of the input is answered by one
+//! line: the line itself, `=>`, and what came of it. A line with nothing on it, or that begins with `#`, is answered by itself.
+//! `no such row` is the answer to a line of no form.
 //!
 //! Fields of bytes are spelled as `sve_row` says, in answers too. Where a row has several of them, ` | ` parts them.
 #![tactic(auto)]
@@ -9,20 +9,11 @@ mod answering;
 mod expansions;
 mod heads;
 mod library;
-mod macros;
-mod tokens;
 
-use answering::answered;
+use answering::Sources;
 use std::io;
-use std::io::{BufRead, BufReader, BufWriter, Write};
+use sve_row::answer_lines;
 
 fn main(rt: HostRuntime) -> io::Result<()> {
-    let alloc = rt.alloc();
-    let mut out = BufWriter::new(alloc, io::writer(&rt))?;
-    for line in BufReader::new(alloc, rt.reader())?.lines(alloc) {
-        let line = line?;
-        let text = answered(alloc, line.as_str())?;
-        writeln!(out, "{text}")?;
-    }
-    out.flush()
+    answer_lines(&rt, &Sources)
 }

@@ -4,95 +4,97 @@
 //! - `extend V WIDTH signed`, `select V LOW WIDTH four`, `concat V V`, `choose V V V`, `clog2 V`, `truth V`: those of the other
 //!   operations. Where two operands have to share size and sign and do not, there is no such row.
 //! - `parts V`: what a value gives to be read.
-ghost use Rattle.std.specs.Prelude.{IfSome};
-ghost use Rattle.sve_value.specs.Vector.{IsWidth};
-
 use std::alloc::Global;
 use std::fmt::Write;
-use std::str::SplitWhitespace;
 use sve_bytes::NoMemory;
-use sve_row::{spell, word};
+use sve_row::{Table, integer_of, spell, value_of, width_of, word};
 use sve_value::{
     Binary, Bit, Bits, Unary, binary, choose, clog2, concat, print, select, truth, unary,
 };
 
-/// The answer to a row of a value.
-pub fn value_row(alloc: Global, kind: &str, row: &str) -> Result<Option<String>, NoMemory> {
-    if kind == "parts" {
-        return parts_row(alloc, row);
+/// The rows of values.
+#[derive(Clone, Copy)]
+pub struct Values;
+
+impl Table for Values {
+    fn answer(&self, alloc: Global, kind: &str, row: &str) -> Result<Option<String>, NoMemory> {
+        if kind == "parts" {
+            return parts_row(alloc, row);
+        }
+        let Some(value) = result_of(kind, row) else {
+            return Ok(None);
+        };
+        let mut out = String::new(alloc);
+        spell(&mut out, &print(alloc, value)?)?;
+        Ok(Some(out))
     }
-    let Some(value) = result_of(kind, row) else {
-        return Ok(None);
-    };
-    let mut out = String::new(alloc);
-    spell(&mut out, &print(alloc, value)?)?;
-    Ok(Some(out))
 }
 
 /// What a row comes to.
 fn result_of(kind: &str, row: &str) -> Option<Bits> {
-    let mut words = row.split_whitespace();
     match kind {
-        "value" => value_or_binary(&mut words),
-        "unary" => prefixed(&mut words),
-        "extend" => extended(&mut words),
-        "select" => selected(&mut words),
-        "concat" => concatenated(&mut words),
-        "choose" => one_of_two(&mut words),
-        "clog2" => logarithm(&mut words),
-        "truth" => truth_value(&mut words),
+        "value" => value_or_binary(row),
+        "unary" => prefixed(row),
+        "extend" => extended(row),
+        "select" => selected(row),
+        "concat" => concatenated(row),
+        "choose" => one_of_two(row),
+        "clog2" => logarithm(row),
+        "truth" => truth_value(row),
         _ => None,
     }
 }
 
 /// The value of an operator before one operand.
-fn prefixed(words: &mut SplitWhitespace) -> Option<Bits> {
-    let operator = unary_operator(words.next()?)?;
-    let a = next(words)?;
+fn prefixed(row: &str) -> Option<Bits> {
+    let (operator, a) = word(row);
+    let operator = unary_operator(operator)?;
+    let a = value_of(a)?;
     Some(unary(operator, a))
 }
 
 /// A value in another size and sign.
-fn extended(words: &mut SplitWhitespace) -> Option<Bits> {
-    let a = next(words)?;
-    let width = width_of(words.next()?)?;
-    let sign = words.next()?;
+fn extended(row: &str) -> Option<Bits> {
+    let (a, rest) = word(row);
+    let (width, sign) = word(rest);
+    let a = value_of(a)?;
+    let width = width_of(width)?;
     Some(a.extend(width, sign == "signed"))
 }
 
 /// Bits of a value from a place on.
-fn selected(words: &mut SplitWhitespace) -> Option<Bits> {
-    let a = next(words)?;
-    let low = words.next()?.parse::<i64>().ok()?;
-    let width = width_of(words.next()?)?;
-    let states = words.next()?;
+fn selected(row: &str) -> Option<Bits> {
+    let (a, rest) = word(row);
+    let (low, rest) = word(rest);
+    let (width, states) = word(rest);
+    let a = value_of(a)?;
+    let low = integer_of(low)?;
+    let width = width_of(width)?;
     Some(select(a, low, width, states == "two"))
 }
 
 /// Two values, one behind the other.
-fn concatenated(words: &mut SplitWhitespace) -> Option<Bits> {
-    let a = next(words)?;
-    let b = next(words)?;
-    joined(a, b)
+fn concatenated(row: &str) -> Option<Bits> {
+    let (a, b) = word(row);
+    joined(value_of(a)?, value_of(b)?)
 }
 
 /// One of two values by a condition.
-fn one_of_two(words: &mut SplitWhitespace) -> Option<Bits> {
-    let condition = next(words)?;
-    let a = next(words)?;
-    let b = next(words)?;
-    chosen(condition, a, b)
+fn one_of_two(row: &str) -> Option<Bits> {
+    let (condition, rest) = word(row);
+    let (a, b) = word(rest);
+    chosen(value_of(condition)?, value_of(a)?, value_of(b)?)
 }
 
 /// The logarithm of a value.
-fn logarithm(words: &mut SplitWhitespace) -> Option<Bits> {
-    let a = next(words)?;
+fn logarithm(row: &str) -> Option<Bits> {
+    let a = value_of(row)?;
     Some(clog2(a))
 }
 
 /// Whether a value is true, as one bit.
-fn truth_value(words: &mut SplitWhitespace) -> Option<Bits> {
-    let a = next(words)?;
+fn truth_value(row: &str) -> Option<Bits> {
+    let a = value_of(row)?;
     Some(match truth(a) {
         Some(holds) => Bits::number(1, false, holds as u128),
         None => Bits::filled(1, false, Bit::X),
@@ -100,12 +102,14 @@ fn truth_value(words: &mut SplitWhitespace) -> Option<Bits> {
 }
 
 /// A value, or that of an operator between two.
-fn value_or_binary(words: &mut SplitWhitespace) -> Option<Bits> {
-    let a = next(words)?;
-    match words.next() {
-        Some(operator) => applied(binary_operator(operator)?, a, next(words)?),
-        None => Some(a),
+fn value_or_binary(row: &str) -> Option<Bits> {
+    let (a, rest) = word(row);
+    let a = value_of(a)?;
+    if rest.is_empty() {
+        return Some(a);
     }
+    let (operator, b) = word(rest);
+    applied(binary_operator(operator)?, a, value_of(b)?)
 }
 
 /// The value of an operator, where its operands suit it.
@@ -179,84 +183,32 @@ fn parts_row(alloc: Global, row: &str) -> Result<Option<String>, NoMemory> {
     Ok(Some(out))
 }
 
-/// The next word, as a value.
-fn next(words: &mut SplitWhitespace) -> Option<Bits> {
-    value_of(words.next()?)
-}
-
-/// The width that a word says.
-fn width_of(word: &str) -> Option<u32>
-    ensures { IfSome result (λ w. IsWidth w) }
-{
-    let width = word.parse::<u32>().ok()?;
-    if 1 <= width && width <= 128 {
-        Some(width)
-    } else {
-        None
-    }
-}
-
-/// The value that a word says.
-pub fn value_of(word: &str) -> Option<Bits> {
-    let (is_negative, word) = match word.strip_prefix("-") {
-        Some(rest) => (true, rest),
-        None => (false, word),
-    };
-    let (width, word) = word.split_once("'")?;
-    let width = width_of(width)?;
-    let (is_signed, word) = match word.strip_prefix("s") {
-        Some(rest) => (true, rest),
-        None => (false, word),
-    };
-    if let Some(digits) = word.strip_prefix("d") {
-        let size = digits.parse::<u128>().ok()?;
-        let number = if is_negative {
-            0u128.wrapping_sub(size)
-        } else {
-            size
-        };
-        return Some(Bits::number(width, is_signed, number));
-    }
-    bits_of(width, is_signed, word.strip_prefix("b")?)
-}
-
-/// The value of these bits.
-fn bits_of(width: u32, is_signed: bool, bits: &str) -> Option<Bits>
-    requires { IsWidth width }
-{
-    let mut value = Bits::filled(width, is_signed, Bit::Zero);
-    for letter in bits.bytes() {
-        let bit = match letter {
-            b'0' => Bit::Zero,
-            b'1' => Bit::One,
-            b'x' => Bit::X,
-            b'z' => Bit::Z,
-            _ => return None,
-        };
-        value = value.shift_in(bit);
-    }
-    Some(value)
-}
+/// The operators before one operand, as they are spelled.
+const UNARY: &[(&str, Unary)] = &[
+    ("+", Unary::Plus),
+    ("-", Unary::Minus),
+    ("~", Unary::BitwiseNot),
+    ("!", Unary::LogicalNot),
+    ("&", Unary::ReductionAnd),
+    ("~&", Unary::ReductionNand),
+    ("|", Unary::ReductionOr),
+    ("~|", Unary::ReductionNor),
+    ("^", Unary::ReductionXor),
+    ("~^", Unary::ReductionXnor),
+];
 
 /// The operator before one operand that a word spells.
 fn unary_operator(word: &str) -> Option<Unary> {
-    match word {
-        "+" => Some(Unary::Plus),
-        "-" => Some(Unary::Minus),
-        "~" => Some(Unary::BitwiseNot),
-        "!" => Some(Unary::LogicalNot),
-        "&" => Some(Unary::ReductionAnd),
-        "~&" => Some(Unary::ReductionNand),
-        "|" => Some(Unary::ReductionOr),
-        "~|" => Some(Unary::ReductionNor),
-        "^" => Some(Unary::ReductionXor),
-        "~^" => Some(Unary::ReductionXnor),
-        _ => None,
+    for (spelling, operator) in UNARY {
+        if *spelling == word {
+            return Some(*operator);
+        }
     }
+    None
 }
 
 /// The operators between two operands, as they are spelled.
-const BINARY: [(&str, Binary); 29] = [
+const BINARY: &[(&str, Binary)] = &[
     ("+", Binary::Add),
     ("-", Binary::Subtract),
     ("*", Binary::Multiply),
@@ -291,8 +243,8 @@ const BINARY: [(&str, Binary); 29] = [
 /// The operator between two operands that a word spells.
 fn binary_operator(word: &str) -> Option<Binary> {
     for (spelling, operator) in BINARY {
-        if spelling == word {
-            return Some(operator);
+        if *spelling == word {
+            return Some(*operator);
         }
     }
     None

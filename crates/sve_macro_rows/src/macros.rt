@@ -13,10 +13,30 @@ use std::alloc::{AllocError, Global};
 use std::fmt::Write;
 use sve_bytes::{List, Name, NoMemory};
 use sve_macro::{
-    ActualFault, Definition, Macro, SubstFault, Table, actuals, escaped_len, part_at, string_len,
+    ActualFault, Definition, Macro, SubstFault, actuals, escaped_len, part_at, string_len,
     substitute_below,
 };
-use sve_row::{decoded, field, spell, word};
+use sve_row::{Table, decoded, field, name_of, number_of, spell, word, words_of};
+
+/// The rows of macros and their uses.
+#[derive(Clone, Copy)]
+pub struct Macros;
+
+impl Table for Macros {
+    fn answer(&self, alloc: Global, kind: &str, row: &str) -> Result<Option<String>, NoMemory> {
+        match kind {
+            "actuals" => actuals_row(alloc, row),
+            "use" => use_row(alloc, row, 1_000_000),
+            "below" => below_row(alloc, row),
+            "constant" => constant_row(alloc, row),
+            "part" => part_row(alloc, row),
+            "string" => string_row(alloc, row),
+            "escaped" => escaped_row(alloc, row),
+            "table" => table_row(alloc, row),
+            _ => Ok(None),
+        }
+    }
+}
 
 /// The actuals of a list and its length, or nothing where it does not end.
 fn texts_of(alloc: Global, list: &[u8]) -> Result<Option<(Vec<List<u8>>, usize)>, NoMemory> {
@@ -34,7 +54,7 @@ fn texts_of(alloc: Global, list: &[u8]) -> Result<Option<(Vec<List<u8>>, usize)>
 }
 
 /// The answer to a row `actuals`.
-pub fn actuals_row(alloc: Global, row: &str) -> Result<Option<String>, NoMemory> {
+fn actuals_row(alloc: Global, row: &str) -> Result<Option<String>, NoMemory> {
     let list = decoded(alloc, row)?;
     let Some((texts, end)) = texts_of(alloc, &list)? else {
         return Ok(Some(String::from_str(alloc, "open")?));
@@ -54,12 +74,12 @@ fn formal_of(alloc: Global, text: &[u8]) -> Result<Option<(Name, Option<List<u8>
         .iter()
         .position(|byte| *byte == b'=')
         .unwrap_or(text.len());
-    let Ok(name) = Name::of(alloc, text.get(..at).unwrap_or(b"")) else {
-        return Ok(None);
-    };
     let default = match text.get(at.wrapping_add(1)..) {
         Some(default) if at < text.len() => Some(List::of(default.to_vec(alloc)?)),
         _ => None,
+    };
+    let Some(name) = name_of(alloc, text.get(..at).unwrap_or(b""))? else {
+        return Ok(None);
     };
     Ok(Some((name, default)))
 }
@@ -117,27 +137,27 @@ fn used(
 }
 
 /// The answer to a row `use`, in so much room.
-pub fn use_row(alloc: Global, row: &str, room: usize) -> Result<Option<String>, NoMemory> {
+fn use_row(alloc: Global, row: &str, room: usize) -> Result<Option<String>, NoMemory> {
     let (formals, rest) = field(row);
     let (text, list) = field(rest);
     let list = decoded(alloc, list)?;
-    let (Some(definition), Some((given, _))) = (
-        macro_of(alloc, formals, text)?,
-        texts_of(alloc, &list)?,
-    ) else {
+    let Some((given, _)) = texts_of(alloc, &list)? else {
+        return Ok(None);
+    };
+    let Some(definition) = macro_of(alloc, formals, text)? else {
         return Ok(None);
     };
     Ok(Some(used(alloc, &definition, &given, room)?))
 }
 
 /// The answer to a row `below`.
-pub fn below_row(alloc: Global, row: &str) -> Result<Option<String>, NoMemory> {
+fn below_row(alloc: Global, row: &str) -> Result<Option<String>, NoMemory> {
     let (room, rest) = word(row);
-    use_row(alloc, rest, room.parse::<usize>().unwrap_or(0))
+    use_row(alloc, rest, number_of(room).unwrap_or(0))
 }
 
 /// The answer to a row `constant`.
-pub fn constant_row(alloc: Global, row: &str) -> Result<Option<String>, NoMemory> {
+fn constant_row(alloc: Global, row: &str) -> Result<Option<String>, NoMemory> {
     let (text, list) = field(row);
     let definition = constant_of(alloc, text)?;
     let given = match texts_of(alloc, &decoded(alloc, list)?)? {
@@ -148,10 +168,10 @@ pub fn constant_row(alloc: Global, row: &str) -> Result<Option<String>, NoMemory
 }
 
 /// The answer to a row `part`.
-pub fn part_row(alloc: Global, row: &str) -> Result<Option<String>, NoMemory> {
+fn part_row(alloc: Global, row: &str) -> Result<Option<String>, NoMemory> {
     let (at, text) = word(row);
     let text = decoded(alloc, text)?;
-    let at = at.parse::<usize>().unwrap_or(0);
+    let at = number_of(at).unwrap_or(0);
     if at > text.len() {
         return Ok(None);
     }
@@ -167,50 +187,71 @@ pub fn part_row(alloc: Global, row: &str) -> Result<Option<String>, NoMemory> {
 }
 
 /// The answer to a row `string`.
-pub fn string_row(alloc: Global, row: &str) -> Result<Option<String>, NoMemory> {
+fn string_row(alloc: Global, row: &str) -> Result<Option<String>, NoMemory> {
     let len = string_len(&decoded(alloc, row)?);
     Ok(Some(format!(in alloc; "{len}")?))
 }
 
 /// The answer to a row `escaped`.
-pub fn escaped_row(alloc: Global, row: &str) -> Result<Option<String>, NoMemory> {
+fn escaped_row(alloc: Global, row: &str) -> Result<Option<String>, NoMemory> {
     let len = escaped_len(&decoded(alloc, row)?);
     Ok(Some(format!(in alloc; "{len}")?))
 }
 
+/// Adds what a table finds under a name.
+fn add_found(out: &mut String, table: &sve_macro::Table, name: &Name) -> Result<(), NoMemory> {
+    if !out.is_empty() {
+        out.push_str(", ")?;
+    }
+    match table.find(name) {
+        Some(found) => spell(out, found.definition().text.items()),
+        None => out.push_str("none"),
+    }
+}
+
+/// Defines a macro without a list.
+fn define(
+    alloc: Global,
+    table: &mut sve_macro::Table,
+    name: &str,
+    text: &str,
+) -> Result<(), NoMemory> {
+    let definition = constant_of(alloc, text)?;
+    match name_of(alloc, name.as_bytes())? {
+        Some(name) => table.define(name, definition),
+        None => Ok(()),
+    }
+}
+
 /// Does one step on a table, and adds what it finds.
-fn step(alloc: Global, table: &mut Table, out: &mut String, step: &str) -> Result<(), NoMemory> {
+fn step(
+    alloc: Global,
+    table: &mut sve_macro::Table,
+    out: &mut String,
+    step: &str,
+) -> Result<(), NoMemory> {
     if step == "*" {
         table.clear();
         return Ok(());
     }
     if let Some((name, text)) = step.split_once('=') {
-        if let Ok(name) = Name::of(alloc, name.as_bytes()) {
-            table.define(name, constant_of(alloc, text)?)?;
-        }
-        return Ok(());
+        return define(alloc, table, name, text);
     }
-    let Ok(name) = Name::of(alloc, step.as_bytes().get(1..).unwrap_or(b"")) else {
+    let Some(name) = name_of(alloc, step.as_bytes().get(1..).unwrap_or(b""))? else {
         return Ok(());
     };
     if step.starts_with('-') {
         table.undefine(&name);
         return Ok(());
     }
-    if !out.is_empty() {
-        out.push_str(", ")?;
-    }
-    match table.find(&name) {
-        Some(found) => spell(out, found.definition().text.items()),
-        None => write!(out, "none"),
-    }
+    add_found(out, table, &name)
 }
 
 /// The answer to a row `table`.
-pub fn table_row(alloc: Global, row: &str) -> Result<Option<String>, NoMemory> {
-    let mut table = Table::new(alloc);
+fn table_row(alloc: Global, row: &str) -> Result<Option<String>, NoMemory> {
+    let mut table = sve_macro::Table::new(alloc);
     let mut out = String::new(alloc);
-    for word in row.split_whitespace() {
+    for word in &words_of(alloc, row)? {
         step(alloc, &mut table, &mut out, word)?;
     }
     Ok(Some(out))

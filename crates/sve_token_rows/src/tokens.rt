@@ -8,12 +8,28 @@
 //!   goes on with `_`, or begins with a capital.
 use std::alloc::Global;
 use std::fmt::Write;
-use sve_bytes::{List, Name, NoMemory, keywords_from};
+use sve_bytes::{Keyword, List, NoMemory, keywords_from};
 use sve_lex::lex;
 use sve_origin::{Expanded, Output};
-use sve_row::{decoded, spell};
+use sve_row::{Table, add_number, decoded, fields_of, name_of, offset_of, spell};
 use sve_token::{Kind, Token};
 
+/// The rows of tokens.
+#[derive(Clone, Copy)]
+pub struct Tokens;
+
+impl Table for Tokens {
+    fn answer(&self, alloc: Global, kind: &str, row: &str) -> Result<Option<String>, NoMemory> {
+        match kind {
+            "tokens" => tokens_row(alloc, row),
+            "pieces" => pieces_row(alloc, row),
+            "words" => words_row(alloc),
+            _ => Ok(None),
+        }
+    }
+}
+
+/// The tokens of a text of pieces.
 fn tokens_of(alloc: Global, output: Output) -> Result<List<Token>, NoMemory> {
     let diags = List::of(Vec::new(alloc));
     let net_types = List::of(Vec::new(alloc));
@@ -30,7 +46,7 @@ fn is_added(
     copied: bool,
 ) -> Result<bool, NoMemory> {
     let total = output.len();
-    let Ok(file) = Name::of(alloc, file.as_bytes()) else {
+    let Some(file) = name_of(alloc, file.as_bytes())? else {
         return Ok(false);
     };
     if piece.is_empty() || piece.len() > 1_000_000 || total > 1_000_000 || offset > 1_000_000 {
@@ -56,29 +72,41 @@ fn is_as_it_stands(token: &Token, text: &[u8]) -> bool {
         && token.copied
 }
 
-/// The answer to a row `tokens`.
-pub fn tokens_row(alloc: Global, row: &str) -> Result<Option<String>, NoMemory> {
-    let text = decoded(alloc, row)?;
-    let tokens = tokens_in(alloc, &text)?;
+/// Adds a token of a text, with its kind and where it stands.
+fn add_token(out: &mut String, token: &Token, text: &[u8]) -> Result<(), NoMemory> {
+    let kind = token.kind;
+    let from = token.place.offset as usize;
+    write!(out, "{kind:?} ")?;
+    add_number(out, from)?;
+    out.push('-')?;
+    add_number(out, from.wrapping_add(token.spelling.bytes().len()))?;
+    if is_as_it_stands(token, text) {
+        return Ok(());
+    }
+    out.push_str(" of ")?;
+    add_number(out, token.text.items().len())
+}
+
+/// The tokens of a text, each with its kind and where it stands.
+fn tokens_text(alloc: Global, tokens: &[Token], text: &[u8]) -> Result<String, NoMemory> {
     let mut out = String::new(alloc);
-    for token in tokens.items() {
+    for token in tokens {
         if !out.is_empty() {
             out.push_str(", ")?;
         }
-        let kind = token.kind;
-        let from = token.place.offset as usize;
-        let spelled = token.spelling.bytes().len();
-        let to = from.wrapping_add(spelled);
-        write!(out, "{kind:?} {from}-{to}")?;
-        if !is_as_it_stands(token, &text) {
-            let all = token.text.items().len();
-            write!(out, " of {all}")?;
-        }
+        add_token(&mut out, token, text)?;
     }
     if out.is_empty() {
         out.push_str("none")?;
     }
-    Ok(Some(out))
+    Ok(out)
+}
+
+/// The answer to a row `tokens`.
+fn tokens_row(alloc: Global, row: &str) -> Result<Option<String>, NoMemory> {
+    let text = decoded(alloc, row)?;
+    let tokens = tokens_in(alloc, &text)?;
+    Ok(Some(tokens_text(alloc, tokens.items(), &text)?))
 }
 
 /// Adds the piece that a field writes, and says whether there is one.
@@ -86,35 +114,45 @@ fn is_field_added(alloc: Global, output: &mut Output, field: &str) -> Result<boo
     let (rest, how) = field.rsplit_once(' ').unwrap_or((field, ""));
     let (rest, offset) = rest.rsplit_once(' ').unwrap_or((rest, ""));
     let (bytes, file) = rest.rsplit_once(' ').unwrap_or((rest, ""));
-    let Ok(offset) = offset.parse::<u32>() else {
+    let Some(offset) = offset_of(offset) else {
         return Ok(false);
     };
     let bytes = decoded(alloc, bytes)?;
     is_added(alloc, output, &bytes, file, offset, how == "copied")
 }
 
+/// Adds a token, with its place and how it is made.
+fn add_place(out: &mut String, token: &Token) -> Result<(), NoMemory> {
+    spell(out, token.spelling.bytes())?;
+    out.push(' ')?;
+    spell(out, token.place.file.bytes())?;
+    out.push(' ')?;
+    add_number(out, token.place.offset as usize)?;
+    out.push_str(if token.copied { " copied" } else { " written" })
+}
+
+/// The tokens of a text of pieces, each with its place and how it is made.
+fn places_text(alloc: Global, tokens: &[Token]) -> Result<String, NoMemory> {
+    let mut out = String::new(alloc);
+    for token in tokens {
+        if !out.is_empty() {
+            out.push_str(", ")?;
+        }
+        add_place(&mut out, token)?;
+    }
+    Ok(out)
+}
+
 /// The answer to a row `pieces`.
-pub fn pieces_row(alloc: Global, row: &str) -> Result<Option<String>, NoMemory> {
+fn pieces_row(alloc: Global, row: &str) -> Result<Option<String>, NoMemory> {
     let mut output = Output::new(alloc);
-    for field in row.split(" | ") {
+    for field in &fields_of(alloc, row)? {
         if !is_field_added(alloc, &mut output, field)? {
             return Ok(None);
         }
     }
     let tokens = tokens_of(alloc, output)?;
-    let mut out = String::new(alloc);
-    for token in tokens.items() {
-        if !out.is_empty() {
-            out.push_str(", ")?;
-        }
-        spell(&mut out, token.spelling.bytes())?;
-        out.push(' ')?;
-        spell(&mut out, token.place.file.bytes())?;
-        let offset = token.place.offset;
-        let how = if token.copied { "copied" } else { "written" };
-        write!(out, " {offset} {how}")?;
-    }
-    Ok(Some(out))
+    Ok(Some(places_text(alloc, tokens.items())?))
 }
 
 /// Whether a text is one identifier.
@@ -149,17 +187,25 @@ fn is_told_apart(alloc: Global, word: &[u8]) -> Result<bool, NoMemory> {
     )
 }
 
-/// The answer to a row `words`.
-pub fn words_row(alloc: Global) -> Result<Option<String>, NoMemory> {
-    let mut words = 0u32;
-    let mut told_apart = 0u32;
-    for first in 0..=255u8 {
-        for word in keywords_from(first) {
-            words = words.wrapping_add(1);
-            if is_told_apart(alloc, word.text)? {
-                told_apart = told_apart.wrapping_add(1);
-            }
+/// How many of these words are told apart.
+fn told_apart(alloc: Global, words: &[Keyword]) -> Result<usize, NoMemory> {
+    let mut count = 0usize;
+    for word in words {
+        if is_told_apart(alloc, word.text)? {
+            count = count.wrapping_add(1);
         }
     }
-    Ok(Some(format!(in alloc; "{words}, {told_apart} told apart")?))
+    Ok(count)
+}
+
+/// The answer to a row `words`.
+fn words_row(alloc: Global) -> Result<Option<String>, NoMemory> {
+    let mut words = 0usize;
+    let mut apart = 0usize;
+    for first in 0..=255u8 {
+        let here = keywords_from(first);
+        words = words.wrapping_add(here.len());
+        apart = apart.wrapping_add(told_apart(alloc, here)?);
+    }
+    Ok(Some(format!(in alloc; "{words}, {apart} told apart")?))
 }
