@@ -1,0 +1,8 @@
+//! What is wrong with a constant expression, and how many of its nodes may be evaluated.
+#![tactic(auto)]
+
+mod fault;
+mod fuel;
+
+pub use fault::{Fault, Said};
+pub use fuel::{Fuel, Halted, spend};
