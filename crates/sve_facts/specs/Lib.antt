@@ -1,0 +1,3 @@
+pub mod Told
+pub mod Facts
+pub mod Bodies
