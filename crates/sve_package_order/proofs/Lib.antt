@@ -3,3 +3,4 @@ pub mod Next
 pub mod Steps
 pub mod Numbered
 pub mod Early
+pub mod OnCycles

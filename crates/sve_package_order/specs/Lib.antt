@@ -1,3 +1,4 @@
 pub mod Rounds
 pub mod Graph
 pub mod Search
+pub mod Cycles

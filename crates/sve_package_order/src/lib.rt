@@ -3,6 +3,7 @@
 #![tactic(auto)]
 
 mod graph;
+pub mod laws;
 mod package_imports;
 mod progress;
 mod rounds;
