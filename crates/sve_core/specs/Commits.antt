@@ -1,5 +1,5 @@
 -- What one commit leaves, and what it is told (own).
-use Rattle.std.specs.Prelude.{ℕ, ◌+◌, List, [], ◌∷◌, ◌++◌, length, Option, Some, None}
+use Rattle.std.specs.Prelude.{◌+◌, [], ◌∷◌, ◌++◌, length, Option, Some, None}
 use Rattle.sve_text.specs.declared.why.Refusal.{Refusal}
 use Rattle.sve_history.specs.declared.entry.Entry.{Entry}
 use Rattle.sve_history.specs.Histories.{HistoryValue}

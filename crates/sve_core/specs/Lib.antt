@@ -1,1 +1,4 @@
 pub mod Commits
+pub mod Machine
+pub mod Outcomes
+pub mod Seats

@@ -1,8 +1,16 @@
-//! What all clients share: the history, and one step of it for each call.
+//! What all clients share: the history, and one step of it for each call. A machine says what clients are told, whatever
+//! order their steps come in.
 #![tactic(auto)]
 
 mod commit;
+mod event;
+pub mod laws;
+mod open;
 mod shared;
+mod told;
 
 pub use commit::{Commit, Outcome};
+pub use event::{Event, EventOf};
+pub use open::Open;
 pub use shared::Core;
+pub use told::Told;
