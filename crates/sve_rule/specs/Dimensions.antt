@@ -1,5 +1,5 @@
 -- Packed dimensions, whose bounds are constants (IEEE 1800-2017, 7.4).
-use Rattle.std.specs.Prelude.{ℕ, ◌*◌, nat_lt, ◌&&◌, if◌then◌else◌, ℤ, pos, negsuc, ◌-ℤ◌, int_lt, int_le, Option, Some, None, Result, Ok, Err}
+use Rattle.std.specs.Prelude.{ℕ, ◌*◌, nat_lt, if◌then◌else◌, ℤ, pos, negsuc, ◌-ℤ◌, int_lt, Option, Some, None, Result, Ok, Err}
 use Rattle.sve_diag.specs.declared.code.Code.TheVariants.{C06}
 use Rattle.sve_value.specs.Vector.{Vector}
 use Rattle.sve_value.specs.Numbers.{known_integer, short_integer}

@@ -1,5 +1,5 @@
 -- System functions (IEEE 1800-2017, 11.7, 20.6.2 and 20.8.1).
-use Rattle.std.specs.Prelude.{ℕ, true, false, codes, bytes_eq, if◌then◌else◌, List, Option, Some, None, Result, Ok, Err}
+use Rattle.std.specs.Prelude.{ℕ, true, false, codes, bytes_eq, if◌then◌else◌, List, Option, Some, None, Result, Ok}
 use Rattle.sve_value.specs.Numbers.{number_of}
 use Rattle.sve_value.specs.Arithmetic.{clog2_of}
 use Rattle.sve_operand.specs.Meaning.{Meaning, own_value, settled_meaning}

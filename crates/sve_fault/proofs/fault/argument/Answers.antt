@@ -1,4 +1,4 @@
-use Rattle.std.proofs.Common.{◌≡◌, length, refl, ap, arith}
+use Rattle.std.proofs.Common.{refl, arith}
 use Rattle.sve_fault.proofs.Arguments.{end_of}
 use Rattle.sve_fault.proofs.fault.argument.Goals as goal
 

@@ -1,4 +1,4 @@
-use Rattle.std.proofs.Common.{◌≡◌, ◌∷◌, List, take, length, ap, sym, ◌∙◌, arith}
+use Rattle.std.proofs.Common.{◌∷◌, take, length, ap, sym, ◌∙◌, arith}
 use Rattle.sve_value.specs.Vector.{Vector}
 use Rattle.sve_literal.proofs.DigitRows.{bit_behind, length_shifted}
 use Rattle.sve_literal.proofs.digits.behind.Goals as goal

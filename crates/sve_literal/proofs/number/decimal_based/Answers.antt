@@ -1,4 +1,4 @@
-use Rattle.std.proofs.Common.{◌≡◌, ℕ, ◌≤◌, ap, ◌∙◌, arith}
+use Rattle.std.proofs.Common.{ℕ, ◌≤◌, ap, ◌∙◌, arith}
 use Rattle.sve_value.specs.Numbers.{number_of}
 use Rattle.sve_literal.specs.Digits.{decimal_from}
 use Rattle.sve_literal.specs.Numbers.{decimal_in}

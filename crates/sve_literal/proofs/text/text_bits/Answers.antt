@@ -1,4 +1,4 @@
-use Rattle.std.proofs.Common.{◌≡◌, length, ap, ◌∙◌, arith}
+use Rattle.std.proofs.Common.{length, ap, ◌∙◌, arith}
 use Rattle.sve_value.specs.Vector.{Vector}
 use Rattle.sve_literal.proofs.StringBytes.{byte_bits, behind_first}
 use Rattle.sve_literal.proofs.text.text_bits.Goals as goal

@@ -1,5 +1,5 @@
 use Rattle.std.proofs.Common.{◌≡◌, ◌++◌, drop}
-use Rattle.sve_literal.specs.Strings.{spelled, unquoted_of}
+use Rattle.sve_literal.specs.Strings.{spelled}
 use Rattle.sve_literal.specs.declared.escapes.Escape.TheVariants.{Closed}
 use Rattle.sve_literal.proofs.text.unquoted.Given as goal
 
