@@ -11,7 +11,8 @@ use Rattle.sve_grammar.specs.Declarations.{import_declaration, parameter_declara
 use Rattle.sve_grammar.specs.Statements.{function_declaration, system_task}
 use Rattle.sve_grammar.specs.Items.{genvar_declaration, continuous_assign, clocked_keyword, clocked_procedure, plain_keyword, plain_procedure, generate_region, loop_generate, if_generate, case_generate, modport_declaration}
 use Rattle.sve_grammar.proofs.Begins.{or_none}
-use Rattle.sve_parse_flat_item.specs.Alternatives.{first_that_begins, item_alternatives}
+use Rattle.sve_parse_form.specs.Forms.{first_begun}
+use Rattle.sve_parse_flat_item.specs.Alternatives.{item_alternatives}
 
 -- the kinds that each alternative begins with
 abbrev pub alternative_kinds : List (List Kind)
@@ -41,16 +42,16 @@ abbrev pub first_with : List (List Kind) → Option Kind → ℕ
 first_with [] k = 0
 first_with (ks ∷ kss) k = cond (is_among ks k) 0 (suc (first_with kss k))
 
-first_is : (k : Option Kind) → first_that_begins item_alternatives k ≡ first_with alternative_kinds k
+first_is : (k : Option Kind) → first_begun item_alternatives k ≡ first_with alternative_kinds k
 unfolding import_declaration parameter_declaration parameter_keyword type_declaration function_declaration genvar_declaration net_declaration net_type variable_declaration data_declaration continuous_assign clocked_procedure clocked_keyword plain_procedure plain_keyword generate_region loop_generate if_generate case_generate modport_declaration system_task opens
 first_is k = simp or_none
 
 -- the number of a kind's alternative is that in the table
-pub first : (k : Kind) (n : ℕ) → first_with alternative_kinds (Some k) ≡ n → first_that_begins item_alternatives (Some k) ≡ n
+pub first : (k : Kind) (n : ℕ) → first_with alternative_kinds (Some k) ≡ n → first_begun item_alternatives (Some k) ≡ n
 first k n e = first_is (Some k) ∘ e
 
 -- a kind that is neither a keyword nor one of three begins no item
-pub no_item_kind : (k : Kind) → ((w : Word) → k ≡ Keyword w → ⊥) → (k ≡ Semicolon → ⊥) → (k ≡ SystemName → ⊥) → (k ≡ Identifier → ⊥) → first_that_begins item_alternatives (Some k) ≡ 19
+pub no_item_kind : (k : Kind) → ((w : Word) → k ≡ Keyword w → ⊥) → (k ≡ Semicolon → ⊥) → (k ≡ SystemName → ⊥) → (k ≡ Identifier → ⊥) → first_begun item_alternatives (Some k) ≡ 19
 unfolding same_kind
 no_item_kind (Keyword w) h i j l = absurd (h w refl)
 no_item_kind Semicolon h i j l = absurd (i refl)
@@ -66,7 +67,7 @@ unlike_marks : (w : Word) → (same_kind (Keyword w) Semicolon ≡ false) × (sa
 unfolding same_kind
 unlike_marks w = (refl, refl, refl)
 
-pub no_item_word : (w : Word) → Lacks w KwImport → Lacks w KwParameter → Lacks w KwLocalparam → Lacks w KwTypedef → Lacks w KwFunction → Lacks w KwGenvar → Lacks w KwWire → Lacks w KwTri → Lacks w KwUwire → Lacks w KwWand → Lacks w KwWor → Lacks w KwTriand → Lacks w KwTrior → Lacks w KwTri0 → Lacks w KwTri1 → Lacks w KwSupply0 → Lacks w KwSupply1 → Lacks w KwVar → Lacks w KwByte → Lacks w KwShortint → Lacks w KwInt → Lacks w KwLongint → Lacks w KwInteger → Lacks w KwTime → Lacks w KwBit → Lacks w KwLogic → Lacks w KwReg → Lacks w KwString → Lacks w KwEnum → Lacks w KwStruct → Lacks w KwAssign → Lacks w KwAlways → Lacks w KwAlwaysFf → Lacks w KwAlwaysComb → Lacks w KwAlwaysLatch → Lacks w KwInitial → Lacks w KwGenerate → Lacks w KwFor → Lacks w KwIf → Lacks w KwCase → Lacks w KwModport → first_that_begins item_alternatives (Some (Keyword w)) ≡ 19
+pub no_item_word : (w : Word) → Lacks w KwImport → Lacks w KwParameter → Lacks w KwLocalparam → Lacks w KwTypedef → Lacks w KwFunction → Lacks w KwGenvar → Lacks w KwWire → Lacks w KwTri → Lacks w KwUwire → Lacks w KwWand → Lacks w KwWor → Lacks w KwTriand → Lacks w KwTrior → Lacks w KwTri0 → Lacks w KwTri1 → Lacks w KwSupply0 → Lacks w KwSupply1 → Lacks w KwVar → Lacks w KwByte → Lacks w KwShortint → Lacks w KwInt → Lacks w KwLongint → Lacks w KwInteger → Lacks w KwTime → Lacks w KwBit → Lacks w KwLogic → Lacks w KwReg → Lacks w KwString → Lacks w KwEnum → Lacks w KwStruct → Lacks w KwAssign → Lacks w KwAlways → Lacks w KwAlwaysFf → Lacks w KwAlwaysComb → Lacks w KwAlwaysLatch → Lacks w KwInitial → Lacks w KwGenerate → Lacks w KwFor → Lacks w KwIf → Lacks w KwCase → Lacks w KwModport → first_begun item_alternatives (Some (Keyword w)) ≡ 19
 no_item_word w h0 h1 h2 h3 h4 h5 h6 h7 h8 h9 h10 h11 h12 h13 h14 h15 h16 h17 h18 h19 h20 h21 h22 h23 h24 h25 h26 h27 h28 h29 h30 h31 h32 h33 h34 h35 h36 h37 h38 h39 h40 =
     let marks = unlike_marks w in
     first (Keyword w) 19 (rw (marks.0, marks.1, marks.2, h0, h1, h2, h3, h4, h5, h6, h7, h8, h9, h10, h11, h12, h13, h14, h15, h16, h17, h18, h19, h20, h21, h22, h23, h24, h25, h26, h27, h28, h29, h30, h31, h32, h33, h34, h35, h36, h37, h38, h39, h40) refl)

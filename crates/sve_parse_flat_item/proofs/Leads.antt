@@ -17,7 +17,8 @@ use Rattle.sve_grammar.proofs.Forward.{starts-none}
 use Rattle.sve_grammar.proofs.Idle.{first_way, last_way}
 use Rattle.sve_grammar.proofs.StartsOfStatements.{import_declaration_full, parameter_declaration_full, type_declaration_full, function_declaration_full, net_declaration_full, variable_declaration_full, data_declaration_full, system_task_full}
 use Rattle.sve_grammar.proofs.StartsOfItems.{genvar_declaration_full, continuous_assign_full, clocked_procedure_full, plain_procedure_full, generate_region_full, loop_generate_full, if_generate_full, case_generate_full, modport_declaration_full}
-use Rattle.sve_parse_flat_item.specs.Alternatives.{first_that_begins, item_alternatives, number_of, package_number, LeadsTo, IsFormOf, FindsItem, FindsUnitItem}
+use Rattle.sve_parse_form.specs.Forms.{first_begun}
+use Rattle.sve_parse_flat_item.specs.Alternatives.{item_alternatives, number_of, package_number, LeadsTo, IsFormOf, FindsItem, FindsUnitItem}
 use Rattle.sve_parse_flat_item.specs.declared.begins.ItemForm.{ItemForm}
 use Rattle.sve_parse_flat_item.specs.declared.begins.PackageForm.{PackageForm}
 use Rattle.sve_parse_flat_item.specs.declared.begins.DeclarationForm.{DeclarationForm}
@@ -51,15 +52,15 @@ BeginsAt [] k j = Unit {0}
 BeginsAt (r ∷ rs) k zero = starts r k ≡ true
 BeginsAt (r ∷ rs) k (suc j) = BeginsAt rs k j
 
-begins_at : (rs : List Rule) (k : Option Kind) → BeginsAt rs k (first_that_begins rs k)
+begins_at : (rs : List Rule) (k : Option Kind) → BeginsAt rs k (first_begun rs k)
 begins_at [] k = tt
 begins_at (r ∷ rs) k = by_test (starts r k) refl (begins_at rs k)
   where
-    by_test : (b : Bool) → starts r k ≡ b → BeginsAt rs k (first_that_begins rs k) → BeginsAt (r ∷ rs) k (cond b 0 (suc (first_that_begins rs k)))
+    by_test : (b : Bool) → starts r k ≡ b → BeginsAt rs k (first_begun rs k) → BeginsAt (r ∷ rs) k (cond b 0 (suc (first_begun rs k)))
     by_test true e h = e
     by_test false e h = h
 
-none_begins : (r : Rule) (rs : List Rule) (k : Option Kind) → first_that_begins (r ∷ rs) k ≡ suc (length rs) → starts (alternatives r rs) k ≡ false
+none_begins : (r : Rule) (rs : List Rule) (k : Option Kind) → first_begun (r ∷ rs) k ≡ suc (length rs) → starts (alternatives r rs) k ≡ false
 none_begins r [] k h = by_test (starts r k) h
   where
     by_test : (b : Bool) → cond b zero (suc zero) ≡ suc zero → b ≡ false
@@ -67,12 +68,12 @@ none_begins r [] k h = by_test (starts r k) h
     by_test false e = refl
 none_begins r (s ∷ rs) k h = by_test (starts r k) h (none_begins s rs k)
   where
-    by_test : (b : Bool) → cond b 0 (suc (first_that_begins (s ∷ rs) k)) ≡ suc (suc (length rs)) → (first_that_begins (s ∷ rs) k ≡ suc (length rs) → starts (alternatives s rs) k ≡ false)
+    by_test : (b : Bool) → cond b 0 (suc (first_begun (s ∷ rs) k)) ≡ suc (suc (length rs)) → (first_begun (s ∷ rs) k ≡ suc (length rs) → starts (alternatives s rs) k ≡ false)
         → (b || starts (alternatives s rs) k) ≡ false
     by_test true e f = absurd (omega (arith, e))
     by_test false e f = f (omega (arith, e))
 
-one_begins : (r : Rule) (rs : List Rule) (k : Option Kind) → first_that_begins (r ∷ rs) k < suc (length rs) → starts (alternatives r rs) k ≡ true
+one_begins : (r : Rule) (rs : List Rule) (k : Option Kind) → first_begun (r ∷ rs) k < suc (length rs) → starts (alternatives r rs) k ≡ true
 one_begins r [] k h = by_test (starts r k) h
   where
     by_test : (b : Bool) → cond b 0 1 < 1 → b ≡ true
@@ -80,16 +81,16 @@ one_begins r [] k h = by_test (starts r k) h
     by_test false e = absurd (omega (arith, e))
 one_begins r (s ∷ rs) k h = by_test (starts r k) h (one_begins s rs k)
   where
-    by_test : (b : Bool) → cond b 0 (suc (first_that_begins (s ∷ rs) k)) < suc (suc (length rs)) → (first_that_begins (s ∷ rs) k < suc (length rs) → starts (alternatives s rs) k ≡ true)
+    by_test : (b : Bool) → cond b 0 (suc (first_begun (s ∷ rs) k)) < suc (suc (length rs)) → (first_begun (s ∷ rs) k < suc (length rs) → starts (alternatives s rs) k ≡ true)
         → (b || starts (alternatives s rs) k) ≡ true
     by_test true e f = refl
     by_test false e f = f (omega (arith, e))
 
-none_begins_of : (rs : List Rule) (k : Option Kind) → first_that_begins rs k ≡ length rs → starts (alternatives_of rs) k ≡ false
+none_begins_of : (rs : List Rule) (k : Option Kind) → first_begun rs k ≡ length rs → starts (alternatives_of rs) k ≡ false
 none_begins_of [] k h = refl
 none_begins_of (r ∷ rs) k h = none_begins r rs k h
 
-one_begins_of : (rs : List Rule) (k : Option Kind) → first_that_begins rs k < length rs → starts (alternatives_of rs) k ≡ true
+one_begins_of : (rs : List Rule) (k : Option Kind) → first_begun rs k < length rs → starts (alternatives_of rs) k ≡ true
 one_begins_of [] k h = absurd (omega (arith, h))
 one_begins_of (r ∷ rs) k h = one_begins r rs k h
 
@@ -104,40 +105,40 @@ module _ (ts : List Token) (n i : ℕ) where
   way_of [] j = Ok (none, i)
   way_of (r ∷ rs) j = way_at r rs j
 
-  chosen : (r : Rule) (rs : List Rule) → AreFull (r ∷ rs) → reads ts (symbol ts n) (alternatives r rs) i ≡ way_at r rs (first_that_begins (r ∷ rs) (kind_at ts i))
+  chosen : (r : Rule) (rs : List Rule) → AreFull (r ∷ rs) → reads ts (symbol ts n) (alternatives r rs) i ≡ way_at r rs (first_begun (r ∷ rs) (kind_at ts i))
   chosen r [] f = refl
   chosen r (s ∷ rs) f = by_test (starts r (kind_at ts i)) refl (chosen s rs f.1)
     where
-      by_test : (b : Bool) → starts r (kind_at ts i) ≡ b → reads ts (symbol ts n) (alternatives s rs) i ≡ way_at s rs (first_that_begins (s ∷ rs) (kind_at ts i))
-          → reads ts (symbol ts n) (r ∣ alternatives s rs) i ≡ way_at r (s ∷ rs) (cond b 0 (suc (first_that_begins (s ∷ rs) (kind_at ts i))))
+      by_test : (b : Bool) → starts r (kind_at ts i) ≡ b → reads ts (symbol ts n) (alternatives s rs) i ≡ way_at s rs (first_begun (s ∷ rs) (kind_at ts i))
+          → reads ts (symbol ts n) (r ∣ alternatives s rs) i ≡ way_at r (s ∷ rs) (cond b 0 (suc (first_begun (s ∷ rs) (kind_at ts i))))
       by_test true e h = first_way ts n r (alternatives s rs) i e
       by_test false e h = last_way ts n r (alternatives s rs) i e f.0 ∘ ap with_right h
 
-  chosen_of : (rs : List Rule) → AreFull rs → reads ts (symbol ts n) (alternatives_of rs) i ≡ way_of rs (first_that_begins rs (kind_at ts i))
+  chosen_of : (rs : List Rule) → AreFull rs → reads ts (symbol ts n) (alternatives_of rs) i ≡ way_of rs (first_begun rs (kind_at ts i))
   chosen_of [] f = refl
   chosen_of (r ∷ rs) f = chosen r rs f
 
 -- what begins with nothing
-none_of : (rs : List Rule) → first_that_begins rs None ≡ length rs
+none_of : (rs : List Rule) → first_begun rs None ≡ length rs
 none_of [] = refl
 none_of (r ∷ rs) = rw (starts-none r) (ap suc (none_of rs))
 
 -- the first alternatives by themselves
-front_found : (rs ss : List Rule) (k : Option Kind) → first_that_begins (rs ++ ss) k < length rs → first_that_begins rs k ≡ first_that_begins (rs ++ ss) k
+front_found : (rs ss : List Rule) (k : Option Kind) → first_begun (rs ++ ss) k < length rs → first_begun rs k ≡ first_begun (rs ++ ss) k
 front_found [] ss k h = absurd (omega arith)
 front_found (r ∷ rs) ss k h = by_test (starts r k) h (front_found rs ss k)
   where
-    by_test : (b : Bool) → cond b 0 (suc (first_that_begins (rs ++ ss) k)) < suc (length rs) → (first_that_begins (rs ++ ss) k < length rs → first_that_begins rs k ≡ first_that_begins (rs ++ ss) k)
-        → cond b 0 (suc (first_that_begins rs k)) ≡ cond b 0 (suc (first_that_begins (rs ++ ss) k))
+    by_test : (b : Bool) → cond b 0 (suc (first_begun (rs ++ ss) k)) < suc (length rs) → (first_begun (rs ++ ss) k < length rs → first_begun rs k ≡ first_begun (rs ++ ss) k)
+        → cond b 0 (suc (first_begun rs k)) ≡ cond b 0 (suc (first_begun (rs ++ ss) k))
     by_test true e f = refl
     by_test false e f = ap suc (f (omega (arith, e)))
 
-front_missed : (rs ss : List Rule) (k : Option Kind) → length rs ≤ first_that_begins (rs ++ ss) k → first_that_begins rs k ≡ length rs
+front_missed : (rs ss : List Rule) (k : Option Kind) → length rs ≤ first_begun (rs ++ ss) k → first_begun rs k ≡ length rs
 front_missed [] ss k h = refl
 front_missed (r ∷ rs) ss k h = by_test (starts r k) h (front_missed rs ss k)
   where
-    by_test : (b : Bool) → suc (length rs) ≤ cond b 0 (suc (first_that_begins (rs ++ ss) k)) → (length rs ≤ first_that_begins (rs ++ ss) k → first_that_begins rs k ≡ length rs)
-        → cond b 0 (suc (first_that_begins rs k)) ≡ suc (length rs)
+    by_test : (b : Bool) → suc (length rs) ≤ cond b 0 (suc (first_begun (rs ++ ss) k)) → (length rs ≤ first_begun (rs ++ ss) k → first_begun rs k ≡ length rs)
+        → cond b 0 (suc (first_begun rs k)) ≡ suc (length rs)
     by_test true e f = absurd (omega (arith, e))
     by_test false e f = ap suc (f (omega (arith, e)))
 
@@ -150,10 +151,10 @@ item_is : item ≡ alternatives_of item_alternatives
 unfolding item
 item_is = refl
 
-item_way : (ts : List Token) (i j : ℕ) → first_that_begins item_alternatives (kind_at ts i) ≡ j → (n : ℕ) → reads ts (symbol ts n) item i ≡ way_of ts n i item_alternatives j
+item_way : (ts : List Token) (i j : ℕ) → first_begun item_alternatives (kind_at ts i) ≡ j → (n : ℕ) → reads ts (symbol ts n) item i ≡ way_of ts n i item_alternatives j
 item_way ts i j e n = ap (λ (r : Rule). reads ts (symbol ts n) r i) item_is ∘ chosen_of ts n i item_alternatives items_full ∘ ap (way_of ts n i item_alternatives) e
 
-pub item_leads : (ts : List Token) (i : ℕ) (form : ItemForm) → first_that_begins item_alternatives (kind_at ts i) ≡ number_of form → LeadsTo ts i form
+pub item_leads : (ts : List Token) (i : ℕ) (form : ItemForm) → first_begun item_alternatives (kind_at ts i) ≡ number_of form → LeadsTo ts i form
 item_leads ts i (forms.Package package_forms.Empty) e = item_way ts i 0 e
 item_leads ts i (forms.Package package_forms.Import) e = item_way ts i 1 e
 item_leads ts i (forms.Package package_forms.Parameters) e = item_way ts i 2 e
@@ -205,7 +206,7 @@ few (forms.Construct constructs.Case) = omega arith
 pub finds_item : (ts : List Token) (i : ℕ) (found : Option ItemForm) → IsFormOf (kind_at ts i) found → FindsItem ts i found
 finds_item ts i None e = item_opens (kind_at ts i) ∘ none_begins_of item_alternatives (kind_at ts i) e
 finds_item ts i (Some form) e =
-    let within : first_that_begins item_alternatives (kind_at ts i) < 19 = rw e (few form) in
+    let within : first_begun item_alternatives (kind_at ts i) < 19 = rw e (few form) in
     (item_opens (kind_at ts i) ∘ one_begins_of item_alternatives (kind_at ts i) within, item_leads ts i form e)
 
 pub no_form_behind : IsFormOf None None
@@ -230,25 +231,25 @@ unit_is : unit_item ≡ alternatives_of unit_alternatives
 unfolding unit_item
 unit_is = refl
 
-unit_found : (k : Option Kind) (j : ℕ) → first_that_begins item_alternatives k ≡ j → j < 5 → first_that_begins unit_alternatives k ≡ j
+unit_found : (k : Option Kind) (j : ℕ) → first_begun item_alternatives k ≡ j → j < 5 → first_begun unit_alternatives k ≡ j
 unit_found k j e h = front_found unit_alternatives other_alternatives k (omega (arith, e, h)) ∘ e
 
-unit_reads : (ts : List Token) (i j : ℕ) → first_that_begins item_alternatives (kind_at ts i) ≡ j → j < 5 → (n : ℕ) → reads ts (symbol ts n) unit_item i ≡ way_of ts n i unit_alternatives j
+unit_reads : (ts : List Token) (i j : ℕ) → first_begun item_alternatives (kind_at ts i) ≡ j → j < 5 → (n : ℕ) → reads ts (symbol ts n) unit_item i ≡ way_of ts n i unit_alternatives j
 unit_reads ts i j e h n = ap (λ (r : Rule). reads ts (symbol ts n) r i) unit_is ∘ chosen_of ts n i unit_alternatives unit_full ∘ ap (way_of ts n i unit_alternatives) (unit_found (kind_at ts i) j e h)
 
-unit_begins : (k : Option Kind) (j : ℕ) → first_that_begins item_alternatives k ≡ j → j < 5 → starts unit_item k ≡ true
+unit_begins : (k : Option Kind) (j : ℕ) → first_begun item_alternatives k ≡ j → j < 5 → starts unit_item k ≡ true
 unit_begins k j e h =
-    let within : first_that_begins unit_alternatives k < 5 = rw (unit_found k j e h) h in
+    let within : first_begun unit_alternatives k < 5 = rw (unit_found k j e h) h in
     ap (λ (r : Rule). starts r k) unit_is ∘ one_begins_of unit_alternatives k within
 
-pub finds_unit : (ts : List Token) (i : ℕ) (form : PackageForm) → first_that_begins item_alternatives (kind_at ts i) ≡ package_number form → FindsUnitItem ts i (Some form)
+pub finds_unit : (ts : List Token) (i : ℕ) (form : PackageForm) → first_begun item_alternatives (kind_at ts i) ≡ package_number form → FindsUnitItem ts i (Some form)
 finds_unit ts i package_forms.Empty e = (unit_begins _ 0 e (omega arith), unit_reads ts i 0 e (omega arith))
 finds_unit ts i package_forms.Import e = (unit_begins _ 1 e (omega arith), unit_reads ts i 1 e (omega arith))
 finds_unit ts i package_forms.Parameters e = (unit_begins _ 2 e (omega arith), unit_reads ts i 2 e (omega arith))
 finds_unit ts i package_forms.Typedef e = (unit_begins _ 3 e (omega arith), unit_reads ts i 3 e (omega arith))
 finds_unit ts i package_forms.Function e = (unit_begins _ 4 e (omega arith), unit_reads ts i 4 e (omega arith))
 
-pub no_unit : (k : Option Kind) (j : ℕ) → first_that_begins item_alternatives k ≡ j → 5 ≤ j → starts unit_item k ≡ false
+pub no_unit : (k : Option Kind) (j : ℕ) → first_begun item_alternatives k ≡ j → 5 ≤ j → starts unit_item k ≡ false
 no_unit k j e h = ap (λ (r : Rule). starts r k) unit_is ∘ none_begins_of unit_alternatives k (front_missed unit_alternatives other_alternatives k (omega (arith, e, h)))
 
 pub late_declaration : (form : DeclarationForm) → 5 ≤ number_of (forms.Declaration form)

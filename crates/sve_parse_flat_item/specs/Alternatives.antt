@@ -13,6 +13,7 @@ use Rattle.sve_grammar.specs.declared.stop.Stop.{Stop}
 use Rattle.sve_grammar.specs.Reading.{Answer, reads, symbol}
 use Rattle.sve_grammar.specs.Gives.{Enters}
 use Rattle.sve_parse_expr.specs.Alternatives.{alternative, last_alternative}
+use Rattle.sve_parse_form.specs.Forms.{first_begun}
 use Rattle.sve_parse_flat_item.specs.declared.begins.PackageForm.{PackageForm}
 use Rattle.sve_parse_flat_item.specs.declared.begins.DeclarationForm.{DeclarationForm}
 use Rattle.sve_parse_flat_item.specs.declared.begins.ProcessForm.{ProcessForm}
@@ -23,11 +24,6 @@ use Rattle.sve_parse_flat_item.specs.declared.begins.DeclarationForm.TheVariants
 use Rattle.sve_parse_flat_item.specs.declared.begins.ProcessForm.TheVariants as processes
 use Rattle.sve_parse_flat_item.specs.declared.begins.ConstructForm.TheVariants as constructs
 use Rattle.sve_parse_flat_item.specs.declared.begins.ItemForm.TheVariants as forms
-
--- the number of the first of these rules that can begin with this kind; where none can, how many they are
-abbrev pub first_that_begins : List Rule → Option Kind → ℕ
-first_that_begins [] k = 0
-first_that_begins (r ∷ rs) k = if starts r k then 0 else suc (first_that_begins rs k)
 
 -- the alternatives of item
 abbrev pub item_alternatives : List Rule
@@ -65,8 +61,8 @@ number_of (forms.Process processes.Named) = 18
 
 -- the form is that of the first alternative that can begin with this kind, or there is none
 abbrev pub IsFormOf : Option Kind → Option ItemForm → Type 0
-IsFormOf k None = first_that_begins item_alternatives k ≡ 19
-IsFormOf k (Some form) = first_that_begins item_alternatives k ≡ number_of form
+IsFormOf k None = first_begun item_alternatives k ≡ 19
+IsFormOf k (Some form) = first_begun item_alternatives k ≡ number_of form
 
 -- the rule of each
 abbrev pub package_rule : PackageForm → Rule

@@ -113,7 +113,7 @@ pub fn begins_item(tokens: &[Token], at: u32) -> bool
 }
 
 /// The form of the item of a package that begins here.
-pub fn package_item_here(tokens: &[Token], at: u32) -> Option<PackageForm>
+pub(crate) fn package_item_here(tokens: &[Token], at: u32) -> Option<PackageForm>
     ensures { FindsUnitItem tokens.now at result }
 {
     match item_here(tokens, at) {

@@ -5,16 +5,10 @@ use Rattle.sve_token.specs.declared.token.Token.{Token}
 use Rattle.sve_grammar.specs.Token.{kind_at}
 use Rattle.sve_grammar.specs.Rule.{tok, ◌∙◌, starts}
 use Rattle.sve_grammar.specs.Declarations.{lifetime}
-use Rattle.sve_grammar.specs.Statements.{case_keyword, loop_keyword, local_declaration}
+use Rattle.sve_grammar.specs.Statements.{local_declaration}
 use Rattle.sve_grammar.specs.Reading.{halt, reads, symbol}
 use Rattle.sve_grammar.proofs.Idle.{stops_here}
-use Rattle.sve_grammar.proofs.StartsOfStatements.{case_keyword_full, loop_keyword_full, lifetime_full}
-
-pub case_keyword_stops : (ts : List Token) (n i : ℕ) → starts case_keyword (kind_at ts i) ≡ false → reads ts (symbol ts n) case_keyword i ≡ halt i false
-case_keyword_stops ts n i s = stops_here ts n case_keyword i s case_keyword_full
-
-pub loop_keyword_stops : (ts : List Token) (n i : ℕ) → starts loop_keyword (kind_at ts i) ≡ false → reads ts (symbol ts n) loop_keyword i ≡ halt i false
-loop_keyword_stops ts n i s = stops_here ts n loop_keyword i s loop_keyword_full
+use Rattle.sve_grammar.proofs.StartsOfStatements.{lifetime_full}
 
 pub local_stops : (ts : List Token) (n i : ℕ) → starts lifetime (kind_at ts i) ≡ false → reads ts (symbol ts n) (lifetime ∙ local_declaration ∙ tok Semicolon) i ≡ halt i false
 local_stops ts n i s = stops_here ts n (lifetime ∙ local_declaration ∙ tok Semicolon) i (rw (s, lifetime_full) refl) (rw lifetime_full refl)

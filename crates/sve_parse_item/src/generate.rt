@@ -1,8 +1,7 @@
 //! Items, and the generate constructs that hold them (IEEE 1800-2017, clause 27, A.1.4 and A.4.2).
 
 ghost use Rattle.std.specs.Prelude.{◌≡◌, ◌<◌, ◌≤◌, ◌^◌, length, IfOk};
-ghost use Rattle.sve_grammar.specs.Token.{kind_at};
-ghost use Rattle.sve_grammar.specs.Rule.{sym, word, ◌∙◌, opt, starts};
+ghost use Rattle.sve_grammar.specs.Rule.{sym, word, ◌∙◌, opt};
 ghost use Rattle.sve_grammar.specs.Reading.{at_depth};
 ghost use Rattle.sve_grammar.specs.Gives.{Gives};
 ghost use Rattle.sve_grammar.specs.Declarations.{label};
@@ -11,13 +10,14 @@ ghost use Rattle.sve_tree.specs.Shape.{optional_tree, repeated_tree, first_tree,
 ghost use Rattle.sve_tree.specs.Items.{item_tree, generate_block_tree, generate_body_tree, generate_region_tree, loop_generate_tree, if_generate_tree, else_generate_tree, case_generate_tree, case_generate_item_tree};
 ghost use Rattle.sve_parse_flat_item.specs.Alternatives.{ConstructLeads};
 
-use crate::options::{boxed, optional_token};
+use crate::boxes::boxed;
 use std::alloc::Global;
-use sve_grammar::{Stop, Symbol, accept, expect, is_kind, opens_here};
+use sve_grammar::{Stop, Symbol, accept, expect, is_kind};
 use sve_parse_expr::{boxed_expr, expr, more_expressions, parenthesized};
 use sve_parse_flat_item::{
     ConstructForm, ItemForm, begins_item, declaration_item, enter_item, package_item, process_item,
 };
+use sve_parse_part::{begins_case_item, end_label, optional_token};
 use sve_parse_simple_item::genvar_iteration;
 use sve_parse_word::optional_label;
 use sve_token::{Keyword, Kind, Token};
@@ -174,8 +174,7 @@ fn generate_body(
     let at = expect(tokens, from, Kind::Keyword(Keyword::KwBegin))?;
     let (label, at) = optional_label(tokens, at, depth)?;
     let (items, last) = items(alloc, tokens, at, depth)?;
-    let at = expect(tokens, last, Kind::Keyword(Keyword::KwEnd))?;
-    let (end_label, end) = optional_label(tokens, at, depth)?;
+    let (end_label, end) = end_label(tokens, last, depth, Keyword::KwEnd)?;
     let body = GenerateBody {
         begin: from,
         label,
@@ -332,7 +331,7 @@ fn more_case_items(
     let mut items = Vec::new(alloc);
     items.push(first)?;
     let mut at = from;
-    'turns: while case_item_here(tokens, at) {
+    'turns: while begins_case_item(tokens, at) {
         let (item, end) = case_item(alloc, tokens, at, depth)?;
         items.push(item)?;
         at = end;
@@ -379,13 +378,4 @@ fn case_item(
         },
         end,
     ))
-}
-
-/// Whether an item of a generate `case` begins here.
-#[tactic(auto, using(sve_grammar::proofs::StartsOfItems::case_generate_item_starts))]
-fn case_item_here(tokens: &[Token], at: u32) -> bool
-    ensures { result ≡ starts case_generate_item (kind_at tokens.now at) }
-{
-    is_kind(tokens, at, Kind::Keyword(Keyword::KwDefault))
-        || opens_here(tokens, at, Symbol::Expression)
 }

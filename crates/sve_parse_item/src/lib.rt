@@ -2,7 +2,7 @@
 //! and A.4.2). Each parser gives the tree that the grammar's reading gives, or stops where the grammar's machine stops.
 #![tactic(auto)]
 
+mod boxes;
 mod generate;
-mod options;
 
 pub use generate::{item, items};

@@ -10,9 +10,9 @@ use Rattle.sve_grammar.specs.Reading.{Tree, Answer, at_depth}
 use Rattle.sve_grammar.specs.Gives.{Fails}
 use Rattle.sve_grammar.specs.Machine.{Halt}
 use Rattle.sve_parse_expr.specs.Alternatives.{alternative}
-use Rattle.sve_parse_form.specs.Heads.{Heads, for_front, foreach_front, for_head_tree, foreach_head_tree}
-use Rattle.sve_parse_form.specs.declared.heads.ForHead.{ForHead}
-use Rattle.sve_parse_form.specs.declared.heads.ForeachHead.{ForeachHead}
+use Rattle.sve_parse_part.specs.Heads.{Heads, for_front, foreach_front, for_head_tree, foreach_head_tree}
+use Rattle.sve_parse_part.specs.declared.heads.ForHead.{ForHead}
+use Rattle.sve_parse_part.specs.declared.heads.ForeachHead.{ForeachHead}
 
 -- an alternative stops where its rule stops
 stays : (n : ℕ) (h : Halt) → alternative n (Err h) ≡ Err h

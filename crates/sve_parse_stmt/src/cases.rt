@@ -11,7 +11,7 @@ use crate::statements::boxed_stmt;
 use std::alloc::Global;
 use sve_grammar::{Stop, accept, expect};
 use sve_parse_expr::{expr, more_expressions, parenthesized};
-use sve_parse_form::{begins_case_item, case_mark, optional_colon};
+use sve_parse_part::{begins_case_item, case_mark, optional_token};
 use sve_token::{Keyword, Kind, Token};
 use sve_tree::{CaseItem, CaseStatement};
 
@@ -88,7 +88,7 @@ fn case_item(
     ensures end { IfOk result (λ x. (from < x.1) × (x.1 ≤ length tokens.now)) }
 {
     if let Some(at) = accept(tokens, from, Kind::Keyword(Keyword::KwDefault)) {
-        let (colon, at) = optional_colon(tokens, at, depth);
+        let (colon, at) = optional_token(tokens, at, depth, Kind::Colon);
         let (statement, end) = boxed_stmt(alloc, tokens, at, depth)?;
         return Ok((
             CaseItem::Default {

@@ -11,7 +11,7 @@ use crate::statements::boxed_stmt;
 use std::alloc::Global;
 use sve_grammar::{Stop, expect};
 use sve_parse_expr::parenthesized;
-use sve_parse_form::{do_end, for_head, foreach_head, loop_mark};
+use sve_parse_part::{do_end, for_head, foreach_head, loop_mark};
 use sve_token::{Keyword, Kind, Token};
 use sve_tree::{DoStatement, ForStatement, ForeachStatement, LoopStatement, Stmt};
 

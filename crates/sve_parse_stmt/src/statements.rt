@@ -16,10 +16,8 @@ use crate::loops::{do_statement, for_statement, foreach_statement, loop_statemen
 use std::alloc::Global;
 use sve_grammar::{Stop, Symbol, accept, enter, expect, is_kind};
 use sve_parse_expr::parenthesized;
-use sve_parse_form::{
-    Form, ItemForm, declared_item, end_label, item_here, optional_uniqueness, plain_statement,
-    statement_here,
-};
+use sve_parse_form::{Form, ItemForm, declared_item, item_here, plain_statement, statement_here};
+use sve_parse_part::{end_label, optional_uniqueness};
 use sve_parse_word::optional_label;
 use sve_token::{Keyword, Kind, Token};
 use sve_tree::{Block, BlockItem, ElseBranch, IfStatement, Stmt};

@@ -33,7 +33,7 @@ cases::more_case_items-turns-init t c = rw (c.in_ok-push.ensures.items, c.new-it
 pub cases::more_case_items-turns-preserved : goal.cases::more_case_items-turns-preserved
 cases::more_case_items-turns-preserved t c =
     rw c.in_ok-push-2.ensures.items (
-      keeps_on _ _ _ _ _ _ _ _ _ c.turns.invariant.0 (flip c.begins_case_item.ensures ∘ c.turns-test.true) c.in_ok-item.ensures.tree (others_push _ _ _ _ c.turns.invariant.1) c.in_ok-item.ensures.end.1,
+      keeps_on _ _ _ _ _ _ _ _ _ c.turns.invariant.0 (flip c.begins_case_item.ensures.statement ∘ c.turns-test.true) c.in_ok-item.ensures.tree (others_push _ _ _ _ c.turns.invariant.1) c.in_ok-item.ensures.end.1,
       first_stays _ _ _ c.turns.invariant.1,
       omega (arith, c.in_ok-item.ensures.end, c.turns.invariant.2),
     )
@@ -41,10 +41,10 @@ cases::more_case_items-turns-preserved t c =
 pub cases::more_case_items-returns-in_err-item-clause-tree : goal.cases::more_case_items-returns-in_err-item-clause-tree
 cases::more_case_items-returns-in_err-item-clause-tree t c =
     let p = err_from_is_err_and c.from_residual-in_err-item.result c.from_residual-in_err-item.ensures.1 in
-    rw (p.1, p.2) (keeps_fails _ _ _ _ _ _ c.turns.invariant.0 c.in_err-item.field-0.0 (flip c.begins_case_item.ensures ∘ c.turns-test.true) c.in_err-item.ensures.tree)
+    rw (p.1, p.2) (keeps_fails _ _ _ _ _ _ c.turns.invariant.0 c.in_err-item.field-0.0 (flip c.begins_case_item.ensures.statement ∘ c.turns-test.true) c.in_err-item.ensures.tree)
 
 pub cases::more_case_items-returns-clause-tree : goal.cases::more_case_items-returns-clause-tree
-cases::more_case_items-returns-clause-tree t c = keeps_end _ _ _ _ _ _ c.turns.invariant.0 (flip c.begins_case_item.ensures ∘ c.turns-test.false) (others_ended _ _ _ c.turns.invariant.1)
+cases::more_case_items-returns-clause-tree t c = keeps_end _ _ _ _ _ _ c.turns.invariant.0 (flip c.begins_case_item.ensures.statement ∘ c.turns-test.false) (others_ended _ _ _ c.turns.invariant.1)
 
 pub cases::more_case_items-returns-clause-first : goal.cases::more_case_items-returns-clause-first
 cases::more_case_items-returns-clause-first t c = first_seen _ _ _ c.turns.invariant.1

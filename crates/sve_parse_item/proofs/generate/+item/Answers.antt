@@ -34,7 +34,7 @@ more_case_items-turns-init t c = rw (c.in_ok-push.ensures.items, c.new-items.ens
 pub more_case_items-turns-preserved : goal.more_case_items-turns-preserved
 more_case_items-turns-preserved t c =
     rw c.in_ok-push-2.ensures.items (
-      keeps_on _ _ _ _ _ _ _ _ _ c.turns.invariant.0 (flip c.case_item_here.ensures ∘ c.turns-test.true) c.in_ok-item.ensures.tree (others_push _ _ _ _ c.turns.invariant.1) c.in_ok-item.ensures.end.1,
+      keeps_on _ _ _ _ _ _ _ _ _ c.turns.invariant.0 (flip c.begins_case_item.ensures.generate ∘ c.turns-test.true) c.in_ok-item.ensures.tree (others_push _ _ _ _ c.turns.invariant.1) c.in_ok-item.ensures.end.1,
       first_stays _ _ _ c.turns.invariant.1,
       omega (arith, c.in_ok-item.ensures.end, c.turns.invariant.2),
     )
@@ -42,10 +42,10 @@ more_case_items-turns-preserved t c =
 pub more_case_items-returns-in_err-item-clause-tree : goal.more_case_items-returns-in_err-item-clause-tree
 more_case_items-returns-in_err-item-clause-tree t c =
     let p = err_from_is_err_and c.from_residual-in_err-item.result c.from_residual-in_err-item.ensures.1 in
-    rw (p.1, p.2) (keeps_fails _ _ _ _ _ _ c.turns.invariant.0 c.in_err-item.field-0.0 (flip c.case_item_here.ensures ∘ c.turns-test.true) c.in_err-item.ensures.tree)
+    rw (p.1, p.2) (keeps_fails _ _ _ _ _ _ c.turns.invariant.0 c.in_err-item.field-0.0 (flip c.begins_case_item.ensures.generate ∘ c.turns-test.true) c.in_err-item.ensures.tree)
 
 pub more_case_items-returns-clause-tree : goal.more_case_items-returns-clause-tree
-more_case_items-returns-clause-tree t c = keeps_end _ _ _ _ _ _ c.turns.invariant.0 (flip c.case_item_here.ensures ∘ c.turns-test.false) (others_ended _ _ _ c.turns.invariant.1)
+more_case_items-returns-clause-tree t c = keeps_end _ _ _ _ _ _ c.turns.invariant.0 (flip c.begins_case_item.ensures.generate ∘ c.turns-test.false) (others_ended _ _ _ c.turns.invariant.1)
 
 pub more_case_items-returns-clause-first : goal.more_case_items-returns-clause-first
 more_case_items-returns-clause-first t c = first_seen _ _ _ c.turns.invariant.1

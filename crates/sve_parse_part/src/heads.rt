@@ -1,7 +1,7 @@
 //! What stands in front of the statement of a loop (IEEE 1800-2017, 12.7.1, 12.7.3 and A.6.8).
 
 ghost use Rattle.std.specs.Prelude.{◌<◌, ◌≤◌, ◌^◌, length, IfOk};
-ghost use Rattle.sve_parse_form.specs.Heads.{Heads, for_front, foreach_front, for_head_tree, foreach_head_tree};
+ghost use Rattle.sve_parse_part.specs.Heads.{Heads, for_front, foreach_front, for_head_tree, foreach_head_tree};
 
 use std::alloc::Global;
 use sve_grammar::{Stop, expect};

@@ -1,7 +1,7 @@
 //! Parts of statements that hold no statement.
 
 ghost use Rattle.std.specs.Prelude.{◌≡◌, ◌<◌, ◌≤◌, ◌+◌, ◌^◌, length, Ok, IfOk};
-ghost use Rattle.sve_token.specs.declared.kind.Kind.TheVariants.{Colon, Semicolon};
+ghost use Rattle.sve_token.specs.declared.kind.Kind.TheVariants.{Semicolon};
 ghost use Rattle.sve_token.specs.declared.keywords.Keyword.TheVariants.{KwWhile};
 ghost use Rattle.sve_grammar.specs.Token.{kind_at};
 ghost use Rattle.sve_grammar.specs.Rule.{tok, word, ◌∙◌, opt, starts};
@@ -10,6 +10,7 @@ ghost use Rattle.sve_grammar.specs.Gives.{Gives};
 ghost use Rattle.sve_grammar.specs.Expressions.{parenthesized};
 ghost use Rattle.sve_grammar.specs.Declarations.{label};
 ghost use Rattle.sve_grammar.specs.Statements.{uniqueness, case_keyword, case_item, loop_keyword};
+ghost use Rattle.sve_grammar.specs.Items.{case_generate_item};
 ghost use Rattle.sve_tree.specs.Shape.{◌▸◌, optional_tree, mark_tree};
 ghost use Rattle.sve_tree.specs.Words.{label_tree, uniqueness_tree, case_keyword_tree, loop_keyword_tree};
 ghost use Rattle.sve_tree.specs.Expressions.{parenthesized_tree};
@@ -36,23 +37,25 @@ pub fn optional_uniqueness(tokens: &[Token], from: u32) -> (Option<Mark<Uniquene
     }
 }
 
-/// A colon, where one is written, and the place behind it.
-pub fn optional_colon(tokens: &[Token], from: u32, depth: u32) -> (Option<u32>, u32)
+/// A token of this kind, where one is written, and the place behind it.
+pub fn optional_token(tokens: &[Token], from: u32, depth: u32, kind: Kind) -> (Option<u32>, u32)
     requires few { length tokens.now < 2 ^ 32 }
     requires from { from ≤ length tokens.now }
-    ensures tree { at_depth tokens.now depth (opt (tok Colon)) from ≡ Ok (optional_tree leaf result.0, result.1) }
+    ensures tree { at_depth tokens.now depth (opt (tok kind)) from ≡ Ok (optional_tree leaf result.0, result.1) }
     ensures end { (from ≤ result.1) × (result.1 ≤ length tokens.now) }
 {
-    match accept(tokens, from, Kind::Colon) {
+    match accept(tokens, from, kind) {
         Some(end) => (Some(from), end),
         None => (None, from),
     }
 }
 
-/// Whether an item of a case statement begins here.
-#[tactic(auto, using(sve_grammar::proofs::StartsOfStatements::case_item_starts))]
+/// Whether an item of a `case` begins here, of a statement (12.5) or of a generate construct (27.5): both begin with the same
+/// tokens.
+#[tactic(auto, using(sve_grammar::proofs::StartsOfStatements::case_item_starts, sve_grammar::proofs::StartsOfItems::case_generate_item_starts))]
 pub fn begins_case_item(tokens: &[Token], at: u32) -> bool
-    ensures { result ≡ starts case_item (kind_at tokens.now at) }
+    ensures statement { result ≡ starts case_item (kind_at tokens.now at) }
+    ensures generate { result ≡ starts case_generate_item (kind_at tokens.now at) }
 {
     is_kind(tokens, at, Kind::Keyword(Keyword::KwDefault))
         || opens_here(tokens, at, Symbol::Expression)

@@ -14,8 +14,8 @@ use Rattle.sve_grammar.specs.Gives.{Fails}
 use Rattle.sve_tree.specs.Shape.{◌▸◌, optional_tree, optional_row, row_first, row_rest}
 use Rattle.sve_tree.specs.Expressions.{expression_tree}
 use Rattle.sve_tree.specs.Statements.{for_initialization_tree, for_step_tree}
-use Rattle.sve_parse_form.specs.declared.heads.ForHead.{ForHead}
-use Rattle.sve_parse_form.specs.declared.heads.ForeachHead.{ForeachHead}
+use Rattle.sve_parse_part.specs.declared.heads.ForHead.{ForHead}
+use Rattle.sve_parse_part.specs.declared.heads.ForeachHead.{ForeachHead}
 
 -- Where the front was taken, the whole is the front's tree before that of the last part, and stops where the last part stops; else it stops in the front.
 abbrev pub Heads : {X : Type 0} → (X → Tree → Tree) → List Token → ℕ → (Rule → Rule) → ℕ → Result (X × ℕ) Stop → Type 0
