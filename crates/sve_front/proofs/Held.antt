@@ -1,5 +1,5 @@
 -- A table of units: all are units of the same files, and each that was added is found.
-use Rattle.std.proofs.Common.{◌≡◌, true, false, List, [], ◌∷◌, ◌++◌, Option, Some, None, is_some, nat_eq, ℕ, suc, ◌+◌, ◌<◌, take, get_or, length, add-one, refl, sym, ap, subst, ◌∙◌}
+use Rattle.std.proofs.Common.{◌≡◌, true, false, List, [], ◌∷◌, ◌++◌, Option, Some, None, is_some, nat_eq, ℕ, ◌+◌, ◌<◌, take, get_or, length, add-one, refl, sym, ap, subst, ◌∙◌}
 use Rattle.std.specs.List.{AllByRecursion}
 use Rattle.std.specs.Option.{option_or}
 use Rattle.std.specs.Cmp.Lexicographic.{pointwise}

@@ -1,8 +1,9 @@
-ghost use Rattle.std.specs.Prelude.{◌≡◌, IfOk, is_some, not};
-ghost use Rattle.std.specs.List.{filter};
+ghost use Rattle.std.specs.Prelude.{◌≡◌, ◌↔◌, ℕ, List as Items, IfOk, is_some, not};
+ghost use Rattle.std.specs.List.{Contains, filter, fold};
 ghost use Rattle.sve_table.specs.Tables.{item_of};
 ghost use Rattle.sve_index.specs.Instances.{itself};
-ghost use Rattle.sve_index.specs.Gathered.{index_from};
+ghost use Rattle.sve_index.specs.Gathered.{after, index_from, nothing_gathered};
+ghost use Rattle.sve_index.specs.Tops.{IsTop};
 ghost use Rattle.sve_index.specs.Whole.{index_of};
 
 use crate::def::Def;
@@ -71,6 +72,17 @@ fn index_from(alloc: Global, gathered: Gathered) -> Result<Index, NoMemory>
     })
 }
 
+/// What is known once all elements have been seen, in their order.
+fn all_gathered(alloc: Global, elements: &[FileElement]) -> Result<Gathered, NoMemory>
+    ensures { IfOk result (λ g. g ≡ fold after nothing_gathered elements.now) }
+{
+    let mut gathered = nothing_gathered(alloc);
+    for source in elements {
+        gathered = after(alloc, gathered, source)?;
+    }
+    Ok(gathered)
+}
+
 /// The index of a design's elements, which stand in the order of their files' names and in a file in that of its text. Of each
 /// name the first module or interface counts, and the first package; each other gets N03 at its name. A label behind an end word
 /// that is not the name of what ends gets S04, also where that has no name (IEEE 1800-2017, 9.3.4). A top is a module that no
@@ -81,14 +93,11 @@ fn index_from(alloc: Global, gathered: Gathered) -> Result<Index, NoMemory>
 ///
 /// # Errors
 /// For want of memory alone.
-#[tactic(auto, using(crate::proofs::Folded::index_is, std::proofs::lemmas::Grind::common_steps))]
 pub fn index_of(alloc: Global, elements: &[FileElement]) -> Result<Index, NoMemory>
-    ensures { IfOk result (λ index. index ≡ index_of elements.now) }
+    ensures index { IfOk result (λ index. index ≡ index_of elements.now) }
+    ensures tops { IfOk result (λ index. (name : Items ℕ) → Contains index.tops name ↔ IsTop elements.now name) }
 {
-    let mut gathered = nothing_gathered(alloc);
-    for source in elements {
-        gathered = after(alloc, gathered, source)?;
-    }
+    let gathered = all_gathered(alloc, elements)?;
     let index = index_from(alloc, gathered)?;
     Ok(index)
 }

@@ -10,7 +10,7 @@ use Rattle.sve_front.proofs.front.found.Goals as goal
 
 pub with_notes-requires-clause-here : goal.with_notes-requires-clause-here
 with_notes-requires-clause-here c =
-    notes_have c.args.files.now.rows c.args.units.now c.args.elements.now c.in_ok-index.index.diags c.requires.elements c.requires.all (ap (λ (i : Index). i.diags) c.in_ok-index.ensures)
+    notes_have c.args.files.now.rows c.args.units.now c.args.elements.now c.in_ok-index.index.diags c.requires.elements c.requires.all (ap (λ (i : Index). i.diags) c.in_ok-index.ensures.index)
 
 pub returns-clause-diags : goal.returns-clause-diags
 returns-clause-diags c =
@@ -19,7 +19,7 @@ returns-clause-diags c =
     let all : c.in_ok-told.told.items ≡ diags_of rows c.args.elements.now =
     c.in_ok-told.ensures
     ∙ ap (λ (ds : List Diag). ds ++ map (note_diag rows) index.diags) c.requires.diags
-    ∙ ap (λ (i : Index). flat_map (unit_diags rows) (unit_names rows) ++ map (note_diag rows) i.diags) c.in_ok-index.ensures in
+    ∙ ap (λ (i : Index). flat_map (unit_diags rows) (unit_names rows) ++ map (note_diag rows) i.diags) c.in_ok-index.ensures.index in
     record {
       sources = c.args.elements.now;
       elements = c.requires.elements;

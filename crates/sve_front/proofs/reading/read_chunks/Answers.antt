@@ -1,4 +1,4 @@
-use Rattle.std.proofs.Common.{◌≡◌, ◌+◌, ◌<◌, ◌++◌, List, [], length, drop, sym, ap, subst, ◌∙◌, arith}
+use Rattle.std.proofs.Common.{◌≡◌, ◌<◌, ◌++◌, List, [], length, drop, sym, ap, subst, ◌∙◌, arith}
 use Rattle.std.specs.List.{slice_index_or, flat_map}
 use Rattle.std.proofs.lemmas.List.{append-nil, drop_all}
 use Rattle.sve_token.specs.declared.token.Token.{Token}

@@ -2,7 +2,7 @@
 use Rattle.std.proofs.Common.{◌≡◌, drop}
 use Rattle.std.specs.List.{fold}
 use Rattle.sve_index.specs.Gathered.{after, nothing_gathered}
-use Rattle.sve_index.proofs.whole.index_of.Given as goal
+use Rattle.sve_index.proofs.whole.all_gathered.Given as goal
 
 abbrev pub invariant-loop-source : goal.invariant-loop-source
 invariant-loop-source l = fold after l.gathered (drop l.source-index l.elements) ≡ fold after nothing_gathered l.elements
