@@ -6,3 +6,4 @@ pub mod Written
 pub mod Cases
 pub mod Loops
 pub mod Larger
+pub mod Asked

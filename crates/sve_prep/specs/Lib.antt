@@ -11,3 +11,4 @@ pub mod Reading
 pub mod Answer
 pub mod Under
 pub mod Larger
+pub mod Asked

@@ -13,7 +13,7 @@ mod texts;
 mod uses;
 mod work;
 
-pub use laws::done_alike;
+pub use laws::{done_alike, done_over_all, needs_are_asked, needs_are_untold};
 pub use start::prep;
 pub use sve_io::Halt;
 pub use sve_origin::{Expanded, Segment};
