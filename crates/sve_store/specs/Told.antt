@@ -11,9 +11,9 @@ Holds {K} {V} told tells = (k : K) (f : ℕ) (v : V) → tells k f v → told k 
 abbrev pub Matches : {K V : Type 0} → (K → Option V) → (K → ℕ → V → Type 0) → Type 0
 Matches {K} {V} told tells = (k : K) (f : ℕ) (v : V) → tells k f v ↔ (told k ≡ Some v)
 
--- the object tells of each key what the table has of it
-abbrev pub Follows : {K V : Type 0} → (K → ℕ → V) → (K → ℕ → V → Type 0) → Type 0
-Follows {K} {V} table tells = (k : K) (f : ℕ) (v : V) → tells k f v → v ≡ table k f
+-- what the object tells of each key says, to whoever asks with that fuel, what the table has of it
+abbrev pub Follows : {K V : Type 0} → (V → ℕ → V) → (K → ℕ → V) → (K → ℕ → V → Type 0) → Type 0
+Follows {K} {V} read_at table tells = (k : K) (f : ℕ) (v : V) → tells k f v → read_at v f ≡ table k f
 
 -- it tells the same before and after
 abbrev pub TellSame : {K V : Type 0} → (K → ℕ → V → Type 0) → (K → ℕ → V → Type 0) → Type 0

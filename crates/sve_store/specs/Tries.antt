@@ -15,3 +15,8 @@ known_values (known ∷ others) = (known.key, arc_value known.value) ∷ known_v
 abbrev pub IsTried : {K V : Type 0} → Made K V → Tried K V → Type 0
 IsTried made (Came v) = made ≡ Done v
 IsTried made (Wants j) = made ≡ Needs j
+
+-- the count after a try: a value that it came to is counted
+abbrev pub count_after : {K V : Type 0} → Tried K V → ℕ → ℕ
+count_after (Came v) n = next_count n
+count_after (Wants j) n = n

@@ -22,6 +22,10 @@ module _ {K V : Type 0} (cmp : K → K → Ordering) (given : K → Option V) (m
   abbrev pub TellsValues : (K → Option V) → Type 0
   TellsValues told = (k : K) (v : V) → told k ≡ Some v → IsValue k 0 v
 
+  -- each told value of a key of lower rank than this one is that of its key
+  abbrev pub TellsLowerValues : (K → ℕ) → ℕ → (K → Option V) → Type 0
+  TellsLowerValues ranked rank told = (k : K) (v : V) → told k ≡ Some v → ranked k < rank → IsValue k 0 v
+
   -- the values of all keys at all fuels
   abbrev pub IsTable : (K → ℕ → V) → Type 0
   IsTable table = (k : K) (fuel : ℕ) → IsValue k fuel (table k fuel)

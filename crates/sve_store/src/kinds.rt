@@ -1,12 +1,13 @@
 //! What kinds of key there are is told by a type that implements these traits. All that is shared is proved over any of
 //! them.
-ghost use Rattle.std.specs.Prelude.{◌≡◌, ◌<◌, ◌↔◌, ℕ, Bool, false, if◌then◌else◌, is_ok, is_some, IfOk, IfErr, IsErr, IsTrue, OnOk, Option, Some, None, List, option_map};
+ghost use Rattle.std.specs.Prelude.{◌≡◌, ◌<◌, ◌≤◌, ◌↔◌, ℕ, Bool, true, false, if◌then◌else◌, is_ok, is_some, IfOk, IfErr, IsErr, IsTrue, OnOk, Option, Some, None, List, length, option_map};
 ghost use Rattle.std.specs.Arc.{arc_value};
 ghost use Rattle.std.specs.declared.cmp.Ordering.TheVariants.{Equal};
 ghost use Rattle.sve_text.specs.Files.{FilesValue};
+ghost use Rattle.sve_history.specs.Histories.{HistoryValue, IsOpening, files_at};
 ghost use Rattle.sve_store.specs.declared.answer.Answer.{Answer as AnswerValue};
 ghost use Rattle.sve_store.specs.Made.{Made, Needs, Done, next_count, values_of, IsOneOf};
-ghost use Rattle.sve_store.specs.Values.{TellsValues};
+ghost use Rattle.sve_store.specs.Values.{IsValue, TellsValues, TellsLowerValues};
 ghost use Rattle.sve_store.specs.Told.{Holds, Matches, Follows, TellSame, HasStopped, HaltedAt, with_asked};
 
 use crate::answer::Answer;
@@ -41,6 +42,9 @@ pub trait Keyed: Sized {
 
     // Whether a value that was computed with one fuel serves whoever asks with this one.
     ghost serves: { Self.Value → ℕ → Bool };
+
+    // What a value that serves says to whoever asks with this fuel: where it cost more than that, it says that it did.
+    ghost read_at: { Self.Value → ℕ → Self.Value };
 
     /// How many values were computed. It takes no memory.
     fn computes(&self) -> u64
@@ -85,7 +89,11 @@ pub trait Keyed: Sized {
 
     ghost one_key: { (a b : Self.Key) → (Self.Key.cmp a b ≡ Equal) ↔ (a ≡ b) };
 
+    ghost lower_fuel: { (v : Self.Value) (f g : ℕ) → g ≤ f → serves v f ≡ true → serves v g ≡ true };
+
     ghost inputs: { (files : FilesValue) (k : Self.Key) → is_some (given files k) ≡ is_input k };
+
+    ghost stamps: { (history : HistoryValue) (r : ℕ) → IsOpening history.opening → r ≤ length history.entries → (k : Self.Key) (v : Self.Value) (s : ℕ) → given (files_at history.opening history.entries r) k ≡ Some (v, s) → (s ≤ r) × (values_of (given (files_at history.opening history.entries s)) k ≡ Some v) };
 }
 
 /// An object that tells the values of keys, and computes under the count of one value of `K`.
@@ -99,8 +107,8 @@ pub trait Fetch<K: Keyed> {
     // The two are one object but for its notes and its count.
     ghost keeps: { Self → Self → Type 0 };
 
-    // Whether its fetches compute nothing.
-    ghost is_quiet: { Self → Type 0 };
+    // Whether a fetch of the key with the fuel computes nothing.
+    ghost is_quiet: { Self → K.Key → ℕ → Type 0 };
 
     // The key at which it halted since it could tell nothing of it.
     ghost halted: { Self → Option K.Key };
@@ -131,7 +139,8 @@ pub trait Fetch<K: Keyed> {
     fn fetch(&mut self, alloc: Global, k: &K::Key, fuel: u32) -> Result<Arc<K::Value>, Halt>
         ensures tells { TellSame (tells self.old) (tells self.new) }
         ensures keeps { keeps self.old self.new }
-        ensures quiet { is_quiet self.old → is_quiet self.new × (K.counted (kind self.new) ≡ K.counted (kind self.old)) }
+        ensures quiet { (j : K.Key) (f : ℕ) → is_quiet self.old j f → is_quiet self.new j f }
+        ensures count { is_quiet self.old k.now fuel → K.counted (kind self.new) ≡ K.counted (kind self.old) }
 
         // An answer is what it tells.
         ensures found { IfOk result (λ v. tells self.old k.now fuel (arc_value v)) }
@@ -159,6 +168,9 @@ pub trait Kinds: Keyed {
     // The answer of a query within a budget, over the values of all keys at all fuels.
     ghost answer_over: { (Self.Key → ℕ → Self.Value) → Self.Query → ℕ → AnswerValue };
 
+    // The keys with their fuels that a query asks for within a budget, over these values.
+    ghost asks_over: { (Self.Key → ℕ → Self.Value) → Self.Query → ℕ → Self.Key → ℕ → Type 0 };
+
     /// The value of a key that is no input. It ticks once, right before it answers `Ok`.
     ///
     /// # Errors
@@ -173,7 +185,7 @@ pub trait Kinds: Keyed {
         ensures tells { TellSame (F.tells from.old) (F.tells from.new) }
         ensures keeps { F.keeps from.old from.new }
         ensures made { (told : Self.Key → Option Self.Value) → Holds told (F.tells from.old) → IfOk result (λ v. make k.now fuel told ≡ Done v) }
-        ensures count { F.is_quiet from.old → Self.counted (F.kind from.new) ≡ (if is_ok result then next_count (Self.counted (F.kind from.old)) else Self.counted (F.kind from.old)) }
+        ensures count { ((j : Self.Key) (f : ℕ) → F.is_quiet from.old j f) → Self.counted (F.kind from.new) ≡ (if is_ok result then next_count (Self.counted (F.kind from.old)) else Self.counted (F.kind from.old)) }
         ensures halted { (told : Self.Key → Option Self.Value) → Matches told (F.tells from.old) → F.halted from.old ≡ None → (j : Self.Key) → F.halted from.new ≡ Some j → IsErr result × (make k.now fuel told ≡ Needs j) }
         ensures stopped { IfErr result (HasStopped (F.stops from.old) (F.stops from.new)) }
         ensures went { OnOk result (F.stops from.new ≡ F.stops from.old) };
@@ -190,15 +202,20 @@ pub trait Kinds: Keyed {
     ) -> Result<Answer, Halt>
         ensures tells { TellSame (F.tells from.old) (F.tells from.new) }
         ensures keeps { F.keeps from.old from.new }
-        ensures answered { (table : Self.Key → ℕ → Self.Value) → Follows table (F.tells from.old) → IfOk result (λ answer. answer ≡ answer_over table q.now budget) }
-        ensures quiet { F.is_quiet from.old → Self.counted (F.kind from.new) ≡ Self.counted (F.kind from.old) }
+        ensures answered { (table : Self.Key → ℕ → Self.Value) → Follows Self.read_at table (F.tells from.old) → IfOk result (λ answer. answer ≡ answer_over table q.now budget) }
+        ensures quiet { (table : Self.Key → ℕ → Self.Value) → Follows Self.read_at table (F.tells from.old) → ((k : Self.Key) (f : ℕ) → asks_over table q.now budget k f → F.is_quiet from.old k f) → Self.counted (F.kind from.new) ≡ Self.counted (F.kind from.old) }
         ensures stopped { IfErr result (HasStopped (F.stops from.old) (F.stops from.new)) }
         ensures went { OnOk result (F.stops from.new ≡ F.stops from.old) };
 
     ghost free: { (k : Self.Key) (f : ℕ) (told : Self.Key → Option Self.Value) (j : Self.Key) → make k f told ≡ Needs j → (g : ℕ) (others : Self.Key → Option Self.Value) → make j g others ≡ make j 0 others };
+
+    ghost own_fuel: { (files : FilesValue) (k : Self.Key) (f : ℕ) (v : Self.Value) → IsValue Self.Key.cmp (values_of (Self.given files)) make k f v → (Self.serves v f ≡ true) × (Self.read_at v f ≡ v) };
+
+    ghost other_fuel: { (files : FilesValue) (k : Self.Key) (f g : ℕ) (v : Self.Value) → IsValue Self.Key.cmp (values_of (Self.given files)) make k g v → Self.serves v f ≡ true → IsValue Self.Key.cmp (values_of (Self.given files)) make k f (Self.read_at v f) };
 }
 
-/// Kinds whose definitions end: each key needs keys of lower height, and not one of them twice.
+/// Kinds whose definitions end: each key needs keys of lower height, and not one of them twice. For a lower height it is
+/// enough that what is told of keys of lower rank is so, whatever is told of those of the key's own.
 pub trait Ending: Kinds {
     // How far a key is from those that need nothing.
     ghost height: { FilesValue → Self.Key → ℕ };
@@ -206,7 +223,9 @@ pub trait Ending: Kinds {
     // The keys that it may need, all that it reads among them.
     ghost reads: { FilesValue → Self.Key → ℕ → List Self.Key };
 
-    ghost lower: { (files : FilesValue) (k : Self.Key) (f : ℕ) (told : Self.Key → Option Self.Value) (j : Self.Key) → Self.is_input k ≡ false → TellsValues Self.Key.cmp (values_of (Self.given files)) Self.make told → Self.make k f told ≡ Needs j → height files j < height files k };
+    ghost lower: { (files : FilesValue) (k : Self.Key) (f : ℕ) (told : Self.Key → Option Self.Value) (j : Self.Key) → Self.is_input k ≡ false → TellsLowerValues Self.Key.cmp (values_of (Self.given files)) Self.make Self.ranked (Self.ranked k) told → Self.make k f told ≡ Needs j → height files j < height files k };
+
+    ghost higher: { (files : FilesValue) (k j : Self.Key) → Self.ranked j < Self.ranked k → height files j < height files k };
 
     ghost reading: { (files : FilesValue) (k : Self.Key) (f : ℕ) (told : Self.Key → Option Self.Value) (j : Self.Key) → Self.is_input k ≡ false → TellsValues Self.Key.cmp (values_of (Self.given files)) Self.make told → Self.make k f told ≡ Needs j → (told j ≡ None) × IsOneOf (reads files k f) j };
 }

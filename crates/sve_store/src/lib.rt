@@ -15,3 +15,4 @@ pub use kinds::{Ending, Fetch, Keyed, Kinds, Start};
 pub use plain::{Plain, plain_answer};
 pub use snapshot::Snapshot;
 pub use sve_io::Halt;
+pub use tries::{Known, Tried, one_try};

@@ -80,7 +80,7 @@ impl<'a, K: Ending> Fetch<K> for Plain<'a, K> {
 
     ghost keeps = { λ s t. (t.kinds.ghost_name ≡ s.kinds.ghost_name) × (t.snapshot.now.files ≡ s.snapshot.now.files) };
 
-    ghost is_quiet = { λ s. ⊥ };
+    ghost is_quiet = { λ s k fuel. ⊥ };
 
     ghost halted = { λ s. None };
 

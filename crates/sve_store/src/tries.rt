@@ -1,10 +1,10 @@
 //! One try at the value of a key, over the values that are known by now.
-ghost use Rattle.std.specs.Prelude.{◌≡◌, ◌<◌, ℕ, List, [], Option, Some, None, IfOk, MatchOption, length, slice_index_or, refl, false};
+ghost use Rattle.std.specs.Prelude.{◌≡◌, ◌<◌, ℕ, List, [], Option, Some, None, IfOk, IsErr, MatchOption, length, slice_index_or, refl, false};
 ghost use Rattle.std.proofs.Common.{◌∙◌};
 ghost use Rattle.std.specs.Arc.{arc_value};
 ghost use Rattle.sve_text.specs.Files.{FilesValue};
 ghost use Rattle.sve_store.specs.Made.{value_in};
-ghost use Rattle.sve_store.specs.Tries.{known_values, IsTried};
+ghost use Rattle.sve_store.specs.Tries.{known_values, IsTried, count_after};
 ghost use Rattle.sve_store.specs.declared.tries.Known.{Known};
 
 use crate::kinds::{Fetch, Keyed, Kinds};
@@ -16,14 +16,16 @@ use sve_io::Halt;
 
 /// A key with its value.
 #[derive(Drop)]
-pub(crate) struct Known<Q, V> {
-    pub(crate) key: Q,
-    pub(crate) value: Arc<V>,
+pub struct Known<Q, V> {
+    /// The key.
+    pub key: Q,
+    /// Its value.
+    pub value: Arc<V>,
 }
 
 /// What a try came to.
 #[derive(Drop)]
-pub(crate) enum Tried<Q, V> {
+pub enum Tried<Q, V> {
     /// The value.
     Came(V),
     /// It needs the value of this key first.
@@ -56,7 +58,7 @@ impl<'a, K: Keyed> Fetch<K> for Try<'a, K> {
 
     ghost keeps = { λ s t. (t.kinds.ghost_name ≡ s.kinds.ghost_name) × ((files : FilesValue) → K.fits t.kinds.now files ≡ K.fits s.kinds.now files) };
 
-    ghost is_quiet = { λ s. Unit {0} };
+    ghost is_quiet = { λ s k fuel. Unit {0} };
 
     ghost halted = { λ s. s.missing };
 
@@ -105,6 +107,8 @@ impl<'a, K: Kinds> Try<'a, K> {
         ensures same_reference { self.new.kinds.ghost_name ≡ self.old.kinds.ghost_name }
         ensures fit { (files : FilesValue) → K.fits self.new.kinds.now files ≡ K.fits self.old.kinds.now files }
         ensures tried { IfOk result (IsTried (K.make key.now fuel (value_in K.Key.cmp (known_values self.old.known.now)))) }
+        ensures count { IfOk result (λ tried. K.counted self.new.kinds.now ≡ count_after tried (K.counted self.old.kinds.now)) }
+        ensures no_count { IsErr result → K.counted self.new.kinds.now ≡ K.counted self.old.kinds.now }
     {
         match K::compute(alloc, key, fuel, self) {
             Ok(value) => Ok(Tried::Came(value)),
@@ -126,8 +130,12 @@ impl<'a, K: Kinds> Try<'a, K> {
     }
 }
 
-/// Tries for the value of a key that is no input.
-pub(crate) fn one_try<K: Kinds>(
+/// Tries for the value of a key that is no input, over the values that are known by now. A value that it comes to is
+/// counted.
+///
+/// # Errors
+/// Only for want of memory.
+pub fn one_try<K: Kinds>(
     alloc: Global,
     kinds: &mut K,
     known: &[Known<K::Key, K::Value>],
@@ -137,6 +145,8 @@ pub(crate) fn one_try<K: Kinds>(
     requires computed { K.is_input key.now ≡ false }
     ensures fit { (files : FilesValue) → K.fits kinds.new files ≡ K.fits kinds.old files }
     ensures tried { IfOk result (IsTried (K.make key.now fuel (value_in K.Key.cmp (known_values known.now)))) }
+    ensures count { IfOk result (λ tried. K.counted kinds.new ≡ count_after tried (K.counted kinds.old)) }
+    ensures no_count { IsErr result → K.counted kinds.new ≡ K.counted kinds.old }
 {
     let mut from = Try {
         kinds: &mut *kinds,

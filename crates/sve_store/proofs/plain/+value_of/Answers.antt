@@ -36,7 +36,7 @@ value_of-requires g t c κs within =
     let way = c.tries.invariant.way in
     let computed = no_input (g.K.Keyed.given files c.args.key.now) (g.K.Keyed.is_input c.args.key.now) (g.met.K.Keyed.inputs files c.args.key.now) (not_given g.K.Key.Ord.cmp given g.K.Kinds.make _ _ _ way) in
     let low = g.met.K.Ending.lower files c.args.key.now c.args.fuel _ c.in-Wants.needed computed
-    (tells_on_the_way g.K.Key.Ord.cmp given g.K.Kinds.make (λ a b. (g.met.K.Keyed.one_key a b).0) _ _ _ way) needs in
+    (λ q v is lower. tells_on_the_way g.K.Key.Ord.cmp given g.K.Kinds.make (λ a b. (g.met.K.Keyed.one_key a b).0) _ _ _ way q v is) needs in
     (omega (arith, low), (within.0, (within.1.0, (within.1.1.0, (within.1.1.1, c.in_ok-value-2.ensures.fit files ∙ c.tries.invariant.fit files ∙ c.requires)))))
 
 pub tries-smaller : goal.tries-smaller
