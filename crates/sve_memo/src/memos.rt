@@ -1,0 +1,69 @@
+ghost use Rattle.std.specs.Prelude.{◌≡◌, [], IfOk, OnOk, OnErr, option_map};
+ghost use Rattle.sve_memo.specs.Memos.{memo_in, put_memo};
+
+use crate::memo::Memo;
+use crate::tree::Tree;
+use std::alloc::Global;
+use std::marker::Model;
+use sve_bytes::NoMemory;
+
+/// Memos in the order of their keys, at most one for each key. Copies share what they have in common, and a memo is
+/// found or put in as many steps as the number of memos has bits, but for a factor.
+#[derive(Drop)]
+pub struct Memos<Q: Ord, V> {
+    tree: Tree<Q, V>,
+}
+
+impl<Q: Ord, V> Model for Memos<Q, V> {
+    ghost use Rattle.sve_memo.specs.Memos.{MemoValue, IsInOrder};
+    ghost use Rattle.std.specs.Prelude.{List};
+
+    ghost Value = { List (MemoValue Q V) };
+
+    ghost use Rattle.sve_memo.specs.Trees.{memos_of};
+
+    ghost view = { λ m. memos_of m.tree };
+
+    ghost invariant = { λ m. IsInOrder Q.cmp (memos_of m.tree) };
+}
+
+impl<Q: Ord + Drop, V: Drop> Memos<Q, V> {
+    /// No memo. It takes no memory.
+    pub fn new() -> Memos<Q, V>
+        ensures { result ≡ [] }
+    {
+        Memos { tree: Tree::Leaf }
+    }
+
+    /// The same memos, which are shared.
+    ///
+    /// # Errors
+    /// Only for want of memory.
+    pub fn share(&self) -> Result<Memos<Q, V>, NoMemory>
+        ensures { IfOk result (λ memos. memos ≡ self.now) }
+    {
+        Ok(Memos {
+            tree: self.tree.share()?,
+        })
+    }
+
+    /// The memo of a key, if there is one. It takes no memory.
+    pub fn find(&self, key: &Q) -> Option<&Memo<Q, V>>
+        ensures { option_map (λ memo. memo.now) result ≡ memo_in Q.cmp self.now key.now }
+    {
+        self.tree.find(key)
+    }
+
+    /// Puts a memo in, in the place of the one of its key, if there is one.
+    ///
+    /// # Errors
+    /// Only for want of memory; the memos are then as before.
+    pub fn put(&mut self, alloc: Global, memo: Memo<Q, V>) -> Result<(), NoMemory>
+        ensures put { OnOk result (self.new ≡ put_memo Q.cmp memo self.old) }
+        ensures unchanged { OnErr result (self.new ≡ self.old) }
+    {
+        let tree = self.tree.put(alloc, memo)?;
+        self.tree = tree;
+        Ok(())
+    }
+}
