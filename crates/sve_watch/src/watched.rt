@@ -45,7 +45,7 @@ impl<'a, K: Ending> Fetch<K> for Watched<'a, K> {
 
     ghost keeps = { λ s t. (t.kinds.ghost_name ≡ s.kinds.ghost_name) × (t.pass.ghost_name ≡ s.pass.ghost_name) × (t.snapshot.now ≡ s.snapshot.now) × HasLooked s.pass.now t.pass.now };
 
-    ghost is_quiet = { λ s. ⊥ };
+    ghost is_quiet = { λ s k fuel. ⊥ };
 
     ghost halted = { λ s. None };
 
