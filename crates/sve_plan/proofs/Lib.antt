@@ -1,0 +1,4 @@
+pub mod Runs
+pub mod Asks
+pub mod Each
+pub mod Steps

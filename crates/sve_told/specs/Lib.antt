@@ -1,0 +1,4 @@
+pub mod Told
+pub mod Keys
+pub mod Made
+pub mod Seen
