@@ -1,5 +1,5 @@
 ghost use Rattle.std.specs.Prelude.{◌≡◌, ℕ, ◌⊎◌, List, Option, Some, IfErr, IfOk, OnOk};
-ghost use Rattle.sve_facts.specs.Told.{HasStopped, IsMissing, TellSame, noted};
+ghost use Rattle.sve_told.specs.Told.{HasStopped, IsMissing, TellSame, noted};
 ghost use Rattle.sve_facts.specs.Bodies.{Answer, CostsWithin, OfBody, OfTops, Question, body_value};
 
 use crate::facts::Facts;
