@@ -1,0 +1,4 @@
+pub mod Meets
+pub mod Entries
+pub mod Tells
+pub mod Closes

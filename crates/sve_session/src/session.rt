@@ -1,0 +1,193 @@
+//! Sessions and their calls.
+ghost use Rattle.std.specs.Prelude.{◌≡◌, ℕ, ◌<◌, ◌≤◌, ◌^◌, [], length, slice_get, Some, IfOk, OnErr, IsTrue};
+ghost use Rattle.sve_board.specs.Values.{PassValue};
+ghost use Rattle.sve_text.specs.declared.edit.Mode.TheVariants.{Pinned};
+ghost use Rattle.sve_history.specs.Histories.{IsOpening};
+ghost use Rattle.sve_store.specs.Made.{values_of};
+ghost use Rattle.sve_store.specs.Values.{IsAnswer};
+ghost use Rattle.sve_watch.specs.Looks.{HasLooked};
+ghost use Rattle.sve_session.specs.Passes.{IsLater, IsReady, IsNext};
+ghost use Rattle.sve_session.specs.Commits.{IsTold};
+ghost use Rattle.sve_session.specs.Asks.{IsBegun, HasSeen, IsOutcome};
+ghost use Rattle.sve_session.specs.Ends.{IsEnded, EndsPass};
+
+use crate::plan::Plan;
+use crate::shared::Shared;
+use crate::work::outcome;
+use std::alloc::Global;
+use std::sync::{Mutex, Wait};
+use sve_board::{Board, Pass, WriterSeat};
+use sve_bytes::NoMemory;
+use sve_core::{Commit, Outcome};
+use sve_history::History;
+use sve_store::{Ending, Fresh, Kinds, Snapshot};
+use sve_text::{Edit, Files, Mode};
+
+/// What clients share. Each client has its pass, and every call is made with one. The calls that take `rt` hold the
+/// lock, and may wait for it; they owe no return.
+///
+/// The plan tells the opening files, the edits of each command, the board, and how many entries the history may have.
+#[derive(Drop)]
+pub struct Session<K: Kinds, P: Plan> {
+    board: Board,
+    shared: Mutex<Shared<K, P>>,
+    most: u64,
+    ghost of_board: { board ≡ P.board },
+    ghost at_most: { most ≡ P.most },
+    ghost few: { most < 2 ^ 62 },
+}
+
+impl<K: Kinds, P: Plan> Session<K, P> {
+    /// A session over this board and these opening files, which no commit has touched. Its history may have `most`
+    /// entries. Board and seat come from one `Board::open`, whose passes are those of the session's clients.
+    ///
+    /// # Errors
+    /// Only for want of memory; the board and the seat are then dropped.
+    pub fn open(
+        alloc: Global,
+        board: Board,
+        writer: WriterSeat,
+        files: Files,
+        most: u64,
+    ) -> Result<Session<K, P>, NoMemory>
+        requires plan { (board ≡ P.board) × (files ≡ P.opening) × (most ≡ P.most) }
+        requires writer { (writer.table ≡ board.table) × (writer.log ≡ []) }
+        requires opening { IsOpening files }
+        requires few { most < 2 ^ 62 }
+    {
+        let shared = Shared::open(alloc, writer, files)?;
+        Ok(Session {
+            board,
+            shared: Mutex::new(shared),
+            most,
+        })
+    }
+
+    /// Commits a command of the pass's client, with the edits that the plan has for it. It is told `Full` where the
+    /// history has as many entries as it may have, else `Refused` where the files of the newest revision refuse the
+    /// edits, else `Accepted`. The pass has then met the whole history. It may wait for the lock.
+    ///
+    /// # Errors
+    /// Only for want of memory; nothing is committed then.
+    pub fn commit<R: Wait>(
+        &self,
+        rt: &R,
+        alloc: Global,
+        pass: &mut Pass,
+        command: u32,
+        edits: &[Edit],
+    ) -> Result<Commit, NoMemory>
+        requires pass { IsReady P.board.table pass.old }
+        requires next { IsNext pass.old command }
+        requires few { length edits.now < 2 ^ 32 }
+        requires edits { edits.now ≡ P.table pass.old.number command }
+        ensures later { IsLater pass.old pass.new }
+        ensures ready { IsReady P.board.table pass.new }
+        ensures told { IfOk result (IsTold P.opening P.table P.most command pass.old pass.new) }
+        ensures unchanged { OnErr result (pass.new.mine ≡ pass.old.mine) }
+    {
+        self.shared
+            .lock(rt)
+            .commit(rt, alloc, &self.board, pass, self.most, command, edits)
+    }
+
+    /// The newest revision, to be asked. The pass has then met the history up to it. It may wait for the lock.
+    ///
+    /// # Errors
+    /// Only for want of memory.
+    pub fn begin<R: Wait>(
+        &self,
+        rt: &R,
+        alloc: Global,
+        pass: &mut Pass,
+    ) -> Result<Snapshot<K>, NoMemory>
+        requires { IsReady P.board.table pass.old }
+        ensures later { IsLater pass.old pass.new }
+        ensures ready { IsReady P.board.table pass.new }
+        ensures mine { pass.new.mine ≡ pass.old.mine }
+        ensures begun { IfOk result (IsBegun P.opening P.table pass.old pass.new) }
+    {
+        self.shared.lock(rt).begin(rt, alloc, &self.board, pass)
+    }
+
+    /// Gives a snapshot back, with the values that were computed at it. Neither files nor history change. It may wait
+    /// for the lock.
+    ///
+    /// # Errors
+    /// Only for want of memory.
+    pub fn finish<R: Wait>(
+        &self,
+        rt: &R,
+        pass: &mut Pass,
+        snapshot: Snapshot<K>,
+        fresh: Fresh<K>,
+    ) -> Result<(), NoMemory>
+        requires pass { IsReady P.board.table pass.old }
+        requires seen { HasSeen P.opening P.table pass.old snapshot }
+        ensures later { IsLater pass.old pass.new }
+        ensures ready { IsReady P.board.table pass.new }
+        ensures mine { pass.new.mine ≡ pass.old.mine }
+    {
+        let base = snapshot.revision();
+        self.shared
+            .lock(rt)
+            .publish(rt, &self.board, pass, base, fresh)
+    }
+
+    /// Ends the session, and gives its history. What each pass that is handed in has seen begins the history, and the
+    /// entries of its client there are those that it knows. It takes no memory and waits for nobody.
+    pub fn close(self, passes: Vec<Pass>) -> History
+        requires { (i : ℕ) (pass : PassValue) → slice_get passes.items i ≡ Some pass → IsReady P.board.table pass }
+        ensures history { IsEnded P.opening P.table P.board.clients result }
+        ensures passes { (i : ℕ) (pass : PassValue) → slice_get passes.items i ≡ Some pass → EndsPass result pass }
+    {
+        let Session {
+            board,
+            shared,
+            most: _,
+        } = self;
+        let (history, writer) = shared.into_inner().into_parts();
+        board.close(writer, passes);
+        history
+    }
+}
+
+impl<K: Ending, P: Plan> Session<K, P> {
+    /// Asks a query at a snapshot, within a budget. It is answered by the files of the snapshot, or `Spent` where the
+    /// query costs more than its budget there. In mode latest it looks at the board before it reads a value and once
+    /// more before it answers, and is cancelled where it sees a later revision; in mode pinned it never is. It computes
+    /// under the count of `kinds`, on condition that these may serve for the snapshot's files. It waits for nobody.
+    ///
+    /// # Errors
+    /// Only for want of memory.
+    pub fn work(
+        &self,
+        alloc: Global,
+        snapshot: &Snapshot<K>,
+        pass: &mut Pass,
+        kinds: &mut K,
+        query: &K::Query,
+        budget: u32,
+        mode: Mode,
+        _fresh: &mut Fresh<K>,
+    ) -> Result<Outcome, NoMemory>
+        requires pass { IsReady P.board.table pass.old }
+        requires seen { HasSeen P.opening P.table pass.old snapshot.now }
+        requires fit { IsTrue (K.fits kinds.old snapshot.now.files) }
+        ensures looked { HasLooked pass.old pass.new }
+        ensures pinned { mode ≡ Pinned → pass.new ≡ pass.old }
+        ensures fit { IsTrue (K.fits kinds.new snapshot.now.files) }
+        ensures outcome { IfOk result (IsOutcome (IsAnswer K.Key.cmp (values_of (K.given snapshot.now.files)) K.make K.answer_over query.now budget) snapshot.now.revision budget mode pass.old pass.new) }
+    {
+        outcome(
+            alloc,
+            &self.board,
+            snapshot,
+            pass,
+            kinds,
+            query,
+            budget,
+            mode,
+        )
+    }
+}

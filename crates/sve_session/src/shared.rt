@@ -1,0 +1,183 @@
+//! What lies under the lock.
+ghost use Rattle.std.specs.Prelude.{◌≡◌, ℕ, ◌+◌, ◌<◌, ◌≤◌, ◌^◌, List, [], ◌∷◌, ◌++◌, length, IfOk, OnErr, OnOk};
+ghost use Rattle.sve_board.specs.Log.{entries_of, largest};
+ghost use Rattle.sve_history.specs.Histories.{IsOpening, IsLegal};
+ghost use Rattle.sve_session.specs.Shared.{history_of};
+ghost use Rattle.sve_session.specs.Passes.{IsLater, IsReady, IsNext};
+ghost use Rattle.sve_session.specs.Commits.{entry, IsTold};
+ghost use Rattle.sve_session.specs.Asks.{IsBegun, HasSeen};
+ghost use Rattle.sve_session.specs.Meeting.{HasMet};
+
+use crate::plan::Plan;
+use std::alloc::Global;
+use std::marker::PhantomData;
+use std::sync::Wait;
+use sve_board::{Board, Pass, WriterSeat};
+use sve_bytes::NoMemory;
+use sve_core::{Commit, Core};
+use sve_history::History;
+use sve_store::{Fresh, Kinds, Snapshot};
+use sve_text::{Edit, Files};
+
+/// The core, with the seat of whoever writes the log. The history of the core is that of the log.
+#[derive(Drop)]
+pub(crate) struct Shared<K: Kinds, P: Plan> {
+    core: Core<K>,
+    writer: WriterSeat,
+    of: PhantomData<P>,
+    ghost of_board: { writer.table ≡ P.board.table },
+    ghost of_log: { core.history ≡ history_of P.opening P.table writer.log },
+    ghost within: { length writer.log ≤ P.most },
+}
+
+impl<K: Kinds, P: Plan> Shared<K, P> {
+    /// A core with these opening files, beside an empty log.
+    pub(crate) fn open(
+        alloc: Global,
+        writer: WriterSeat,
+        files: Files,
+    ) -> Result<Shared<K, P>, NoMemory>
+        requires plan { (writer.table ≡ P.board.table) × (files ≡ P.opening) }
+        requires opening { IsOpening files }
+        requires empty { writer.log ≡ [] }
+    {
+        let core = Core::open(alloc, files)?;
+        Ok(Shared {
+            core,
+            writer,
+            of: PhantomData,
+        })
+    }
+
+    /// The history, and the seat with its log.
+    pub(crate) fn into_parts(self) -> (History, WriterSeat)
+        ensures board { result.1.table ≡ P.board.table }
+        ensures history { result.0 ≡ history_of P.opening P.table result.1.log }
+        ensures legal { IsLegal result.0 }
+    {
+        let Shared {
+            core,
+            writer,
+            of: _,
+        } = self;
+        let history = core.into_history();
+        history.stays_legal();
+        (history, writer)
+    }
+
+    /// A commit. All memory is taken before its entry is in the log.
+    pub(crate) fn commit<R: Wait>(
+        &mut self,
+        rt: &R,
+        alloc: Global,
+        board: &Board,
+        pass: &mut Pass,
+        most: u64,
+        command: u32,
+        edits: &[Edit],
+    ) -> Result<Commit, NoMemory>
+        requires board { board.now ≡ P.board }
+        requires most { (most ≡ P.most) × (most < 2 ^ 62) }
+        requires pass { IsReady P.board.table pass.old }
+        requires next { IsNext pass.old command }
+        requires few { length edits.now < 2 ^ 32 }
+        requires edits { edits.now ≡ P.table pass.old.number command }
+        ensures later { IsLater pass.old pass.new }
+        ensures ready { IsReady P.board.table pass.new }
+        ensures told { IfOk result (IsTold P.opening P.table P.most command pass.old pass.new) }
+        ensures unchanged { OnErr result (pass.new.mine ≡ pass.old.mine) }
+    {
+        let total = self.core.history().len();
+        meet_log(rt, board, &mut self.writer, pass, total);
+        if total >= most {
+            return Ok(Commit::Full);
+        }
+        match self.core.commit(alloc, pass.client(), command, edits)? {
+            Commit::Accepted { r } => {
+                add_entry(rt, board, &mut self.writer, pass, command);
+                Ok(Commit::Accepted { r })
+            }
+            refused => Ok(refused),
+        }
+    }
+
+    /// A snapshot of the newest revision, all of which the pass has met.
+    pub(crate) fn begin<R: Wait>(
+        &mut self,
+        rt: &R,
+        alloc: Global,
+        board: &Board,
+        pass: &mut Pass,
+    ) -> Result<Snapshot<K>, NoMemory>
+        requires board { board.now ≡ P.board }
+        requires pass { IsReady P.board.table pass.old }
+        ensures later { IsLater pass.old pass.new }
+        ensures ready { IsReady P.board.table pass.new }
+        ensures mine { pass.new.mine ≡ pass.old.mine }
+        ensures begun { IfOk result (IsBegun P.opening P.table pass.old pass.new) }
+    {
+        let newest = self.core.history().len();
+        meet_log(rt, board, &mut self.writer, pass, newest);
+        self.core.begin(alloc)
+    }
+
+    /// Takes the values that were computed at a snapshot that the pass has seen.
+    pub(crate) fn publish<R: Wait>(
+        &mut self,
+        rt: &R,
+        board: &Board,
+        pass: &mut Pass,
+        base: u64,
+        fresh: Fresh<K>,
+    ) -> Result<(), NoMemory>
+        requires board { board.now ≡ P.board }
+        requires pass { IsReady P.board.table pass.old }
+        requires seen { base ≤ length pass.old.seen }
+        ensures later { IsLater pass.old pass.new }
+        ensures ready { IsReady P.board.table pass.new }
+        ensures mine { pass.new.mine ≡ pass.old.mine }
+    {
+        let length = self.core.history().len();
+        meet_log(rt, board, &mut self.writer, pass, length);
+        self.core.publish(base, fresh)
+    }
+}
+
+/// Lets a pass meet the whole log, whose length this is. Under the lock the first look finds it.
+fn meet_log<R: Wait>(rt: &R, board: &Board, writer: &mut WriterSeat, pass: &mut Pass, total: u64)
+    requires board { (writer.old.table ≡ board.now.table) × (pass.old.table ≡ board.now.table) }
+    requires total { total ≡ length writer.old.log }
+    requires even { pass.old.raises ≡ length pass.old.mine }
+    ensures writer { writer.new ≡ writer.old }
+    ensures met { HasMet writer.old.log pass.old pass.new }
+{
+    for _ in rt.forever() {
+        if board.look(pass) == total {
+            let note = board.note(writer);
+            board.meet(pass, note);
+            return;
+        }
+    }
+    unreachable!()
+}
+
+/// Adds a command of the pass's client to a log, all of which the pass has met.
+fn add_entry<R: Wait>(rt: &R, board: &Board, writer: &mut WriterSeat, pass: &mut Pass, command: u32)
+    requires board { (writer.old.table ≡ board.now.table) × (pass.old.table ≡ board.now.table) }
+    requires met { (pass.old.seen ≡ writer.old.log) × (pass.old.mine ≡ entries_of pass.old.number writer.old.log) × (largest pass.old.looks ≤ length writer.old.log) }
+    requires even { pass.old.raises ≡ length pass.old.mine }
+    requires room { length writer.old.log < 2 ^ 62 }
+    ensures writer { (writer.new.table ≡ writer.old.table) × (writer.new.log ≡ writer.old.log ++ entry pass.old.number command ∷ []) }
+    ensures pass { pass.new ≡ record pass.old { seen = writer.old.log ++ entry pass.old.number command ∷ []; mine = pass.old.mine ++ entry pass.old.number command ∷ []; looks = pass.old.looks ++ (length writer.old.log + 1) ∷ []; raises = pass.old.raises + 1 } }
+{
+    let client = pass.client();
+    let announced = board.raise(pass);
+    for _ in rt.forever() {
+        if board.check(writer, client) >= announced {
+            break;
+        }
+    }
+    board.publish(writer, client, command);
+    let note = board.note(writer);
+    board.meet(pass, note);
+}
