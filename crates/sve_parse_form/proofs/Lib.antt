@@ -1,4 +1,3 @@
-pub mod Items
+pub mod FirstTokens
 pub mod Leads
-pub mod Others
 pub mod Ways

@@ -14,7 +14,6 @@ use Rattle.sve_grammar.specs.Reading.{Answer, with_left, with_right, reads, symb
 use Rattle.sve_parse_form.specs.declared.forms.Form.{Form}
 use Rattle.sve_parse_form.specs.declared.forms.Form.TheVariants as forms
 use Rattle.sve_parse_form.specs.declared.forms.Plain.TheVariants as plain
-use Rattle.sve_parse_form.specs.declared.forms.Declared.{Declared}
 use Rattle.sve_parse_form.specs.declared.forms.Declared.TheVariants as declared
 use Rattle.sve_parse_form.specs.declared.forms.ItemForm.{ItemForm}
 use Rattle.sve_parse_form.specs.declared.forms.ItemForm.TheVariants as items

@@ -107,17 +107,16 @@ fn form_of_keyword(word: Keyword) -> Form
 {
     match word {
         Keyword::KwBegin => Form::Block,
-        Keyword::KwIf => Form::Choice,
-        Keyword::KwCase => Form::Choice,
-        Keyword::KwCasez => Form::Choice,
-        Keyword::KwCasex => Form::Choice,
-        Keyword::KwUnique => Form::Choice,
-        Keyword::KwUnique0 => Form::Choice,
-        Keyword::KwPriority => Form::Choice,
+        Keyword::KwIf
+        | Keyword::KwCase
+        | Keyword::KwCasez
+        | Keyword::KwCasex
+        | Keyword::KwUnique
+        | Keyword::KwUnique0
+        | Keyword::KwPriority => Form::Choice,
         Keyword::KwFor => Form::For,
         Keyword::KwForeach => Form::Foreach,
-        Keyword::KwWhile => Form::Loop,
-        Keyword::KwRepeat => Form::Loop,
+        Keyword::KwWhile | Keyword::KwRepeat => Form::Loop,
         Keyword::KwDo => Form::Do,
         Keyword::KwReturn => Form::Plain(Plain::Return),
         Keyword::KwBreak => Form::Plain(Plain::Break),
@@ -159,41 +158,41 @@ fn item_of_keyword(word: Keyword) -> Option<ItemForm>
     ensures { IsItem (Some (Kind.Keyword word)) result }
 {
     match word {
-        Keyword::KwAutomatic => Some(ItemForm::Declared(Declared::Local)),
-        Keyword::KwStatic => Some(ItemForm::Declared(Declared::Local)),
+        Keyword::KwAutomatic | Keyword::KwStatic => Some(ItemForm::Declared(Declared::Local)),
         Keyword::KwVar => Some(ItemForm::Declared(Declared::Variable)),
-        Keyword::KwByte => Some(ItemForm::Declared(Declared::Data)),
-        Keyword::KwShortint => Some(ItemForm::Declared(Declared::Data)),
-        Keyword::KwInt => Some(ItemForm::Declared(Declared::Data)),
-        Keyword::KwLongint => Some(ItemForm::Declared(Declared::Data)),
-        Keyword::KwInteger => Some(ItemForm::Declared(Declared::Data)),
-        Keyword::KwTime => Some(ItemForm::Declared(Declared::Data)),
-        Keyword::KwBit => Some(ItemForm::Declared(Declared::Data)),
-        Keyword::KwLogic => Some(ItemForm::Declared(Declared::Data)),
-        Keyword::KwReg => Some(ItemForm::Declared(Declared::Data)),
-        Keyword::KwString => Some(ItemForm::Declared(Declared::Data)),
-        Keyword::KwEnum => Some(ItemForm::Declared(Declared::Data)),
-        Keyword::KwStruct => Some(ItemForm::Declared(Declared::Data)),
-        Keyword::KwParameter => Some(ItemForm::Declared(Declared::Parameters)),
-        Keyword::KwLocalparam => Some(ItemForm::Declared(Declared::Parameters)),
+        Keyword::KwByte
+        | Keyword::KwShortint
+        | Keyword::KwInt
+        | Keyword::KwLongint
+        | Keyword::KwInteger
+        | Keyword::KwTime
+        | Keyword::KwBit
+        | Keyword::KwLogic
+        | Keyword::KwReg
+        | Keyword::KwString
+        | Keyword::KwEnum
+        | Keyword::KwStruct => Some(ItemForm::Declared(Declared::Data)),
+        Keyword::KwParameter | Keyword::KwLocalparam => Some(ItemForm::Declared(
+            Declared::Parameters,
+        )),
         Keyword::KwTypedef => Some(ItemForm::Declared(Declared::Typedef)),
-        Keyword::KwBegin => Some(ItemForm::Statement),
-        Keyword::KwIf => Some(ItemForm::Statement),
-        Keyword::KwCase => Some(ItemForm::Statement),
-        Keyword::KwCasez => Some(ItemForm::Statement),
-        Keyword::KwCasex => Some(ItemForm::Statement),
-        Keyword::KwUnique => Some(ItemForm::Statement),
-        Keyword::KwUnique0 => Some(ItemForm::Statement),
-        Keyword::KwPriority => Some(ItemForm::Statement),
-        Keyword::KwFor => Some(ItemForm::Statement),
-        Keyword::KwForeach => Some(ItemForm::Statement),
-        Keyword::KwWhile => Some(ItemForm::Statement),
-        Keyword::KwRepeat => Some(ItemForm::Statement),
-        Keyword::KwDo => Some(ItemForm::Statement),
-        Keyword::KwReturn => Some(ItemForm::Statement),
-        Keyword::KwBreak => Some(ItemForm::Statement),
-        Keyword::KwContinue => Some(ItemForm::Statement),
-        Keyword::KwVoid => Some(ItemForm::Statement),
+        Keyword::KwBegin
+        | Keyword::KwIf
+        | Keyword::KwCase
+        | Keyword::KwCasez
+        | Keyword::KwCasex
+        | Keyword::KwUnique
+        | Keyword::KwUnique0
+        | Keyword::KwPriority
+        | Keyword::KwFor
+        | Keyword::KwForeach
+        | Keyword::KwWhile
+        | Keyword::KwRepeat
+        | Keyword::KwDo
+        | Keyword::KwReturn
+        | Keyword::KwBreak
+        | Keyword::KwContinue
+        | Keyword::KwVoid => Some(ItemForm::Statement),
         _ => None,
     }
 }

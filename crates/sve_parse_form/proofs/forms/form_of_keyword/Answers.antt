@@ -1,76 +1,49 @@
-use Rattle.std.proofs.Common.{refl}
-use Rattle.sve_grammar.specs.Token.{same_kind}
-use Rattle.sve_grammar.specs.Statements.{block, uniqueness, choice, if_statement, case_statement, case_keyword, for_statement, foreach_statement, loop_statement, loop_keyword, do_statement, return_statement, system_task, void_call, increment_statement, increment_operator, concatenation_assignment, left_concatenation}
-use Rattle.sve_parse_form.proofs.Others.{form_of_other_word}
+use Rattle.std.proofs.Common.{inl, inr}
+use Rattle.sve_parse_form.specs.declared.forms.Form.TheVariants as forms
+use Rattle.sve_parse_form.specs.declared.forms.Plain.TheVariants as plain
+use Rattle.sve_parse_form.proofs.FirstTokens.{form_of_word, form_of_other_word, form_of_KwBegin, form_of_KwIf, form_of_KwCase, form_of_KwCasez, form_of_KwCasex, form_of_KwUnique, form_of_KwUnique0, form_of_KwPriority, form_of_KwFor, form_of_KwForeach, form_of_KwWhile, form_of_KwRepeat, form_of_KwDo, form_of_KwReturn, form_of_KwBreak, form_of_KwContinue, form_of_KwVoid}
 use Rattle.sve_parse_form.proofs.forms.form_of_keyword.Goals as goal
 
 pub returns-in-KwBegin : goal.returns-in-KwBegin
-unfolding same_kind block uniqueness choice if_statement case_statement case_keyword for_statement foreach_statement loop_statement loop_keyword do_statement return_statement system_task void_call increment_statement increment_operator concatenation_assignment left_concatenation
-returns-in-KwBegin c = rw c.in-KwBegin.is refl
+returns-in-KwBegin c = form_of_word _ _ forms.Block c.in-KwBegin.is form_of_KwBegin
 
 pub returns-in-KwIf : goal.returns-in-KwIf
-unfolding same_kind block uniqueness choice if_statement case_statement case_keyword for_statement foreach_statement loop_statement loop_keyword do_statement return_statement system_task void_call increment_statement increment_operator concatenation_assignment left_concatenation
-returns-in-KwIf c = rw c.in-KwIf.is refl
-
-pub returns-in-KwCase : goal.returns-in-KwCase
-unfolding same_kind block uniqueness choice if_statement case_statement case_keyword for_statement foreach_statement loop_statement loop_keyword do_statement return_statement system_task void_call increment_statement increment_operator concatenation_assignment left_concatenation
-returns-in-KwCase c = rw c.in-KwCase.is refl
-
-pub returns-in-KwCasez : goal.returns-in-KwCasez
-unfolding same_kind block uniqueness choice if_statement case_statement case_keyword for_statement foreach_statement loop_statement loop_keyword do_statement return_statement system_task void_call increment_statement increment_operator concatenation_assignment left_concatenation
-returns-in-KwCasez c = rw c.in-KwCasez.is refl
-
-pub returns-in-KwCasex : goal.returns-in-KwCasex
-unfolding same_kind block uniqueness choice if_statement case_statement case_keyword for_statement foreach_statement loop_statement loop_keyword do_statement return_statement system_task void_call increment_statement increment_operator concatenation_assignment left_concatenation
-returns-in-KwCasex c = rw c.in-KwCasex.is refl
-
-pub returns-in-KwUnique : goal.returns-in-KwUnique
-unfolding same_kind block uniqueness choice if_statement case_statement case_keyword for_statement foreach_statement loop_statement loop_keyword do_statement return_statement system_task void_call increment_statement increment_operator concatenation_assignment left_concatenation
-returns-in-KwUnique c = rw c.in-KwUnique.is refl
-
-pub returns-in-KwUnique0 : goal.returns-in-KwUnique0
-unfolding same_kind block uniqueness choice if_statement case_statement case_keyword for_statement foreach_statement loop_statement loop_keyword do_statement return_statement system_task void_call increment_statement increment_operator concatenation_assignment left_concatenation
-returns-in-KwUnique0 c = rw c.in-KwUnique0.is refl
-
-pub returns-in-KwPriority : goal.returns-in-KwPriority
-unfolding same_kind block uniqueness choice if_statement case_statement case_keyword for_statement foreach_statement loop_statement loop_keyword do_statement return_statement system_task void_call increment_statement increment_operator concatenation_assignment left_concatenation
-returns-in-KwPriority c = rw c.in-KwPriority.is refl
+returns-in-KwIf c = elim c.in-KwIf.is [
+  | inl e ↦ form_of_word _ _ forms.Choice e form_of_KwIf
+  | inr (inl e) ↦ form_of_word _ _ forms.Choice e form_of_KwCase
+  | inr (inr (inl e)) ↦ form_of_word _ _ forms.Choice e form_of_KwCasez
+  | inr (inr (inr (inl e))) ↦ form_of_word _ _ forms.Choice e form_of_KwCasex
+  | inr (inr (inr (inr (inl e)))) ↦ form_of_word _ _ forms.Choice e form_of_KwUnique
+  | inr (inr (inr (inr (inr (inl e))))) ↦ form_of_word _ _ forms.Choice e form_of_KwUnique0
+  | inr (inr (inr (inr (inr (inr e))))) ↦ form_of_word _ _ forms.Choice e form_of_KwPriority
+]
 
 pub returns-in-KwFor : goal.returns-in-KwFor
-unfolding same_kind block uniqueness choice if_statement case_statement case_keyword for_statement foreach_statement loop_statement loop_keyword do_statement return_statement system_task void_call increment_statement increment_operator concatenation_assignment left_concatenation
-returns-in-KwFor c = rw c.in-KwFor.is refl
+returns-in-KwFor c = form_of_word _ _ forms.For c.in-KwFor.is form_of_KwFor
 
 pub returns-in-KwForeach : goal.returns-in-KwForeach
-unfolding same_kind block uniqueness choice if_statement case_statement case_keyword for_statement foreach_statement loop_statement loop_keyword do_statement return_statement system_task void_call increment_statement increment_operator concatenation_assignment left_concatenation
-returns-in-KwForeach c = rw c.in-KwForeach.is refl
+returns-in-KwForeach c = form_of_word _ _ forms.Foreach c.in-KwForeach.is form_of_KwForeach
 
 pub returns-in-KwWhile : goal.returns-in-KwWhile
-unfolding same_kind block uniqueness choice if_statement case_statement case_keyword for_statement foreach_statement loop_statement loop_keyword do_statement return_statement system_task void_call increment_statement increment_operator concatenation_assignment left_concatenation
-returns-in-KwWhile c = rw c.in-KwWhile.is refl
-
-pub returns-in-KwRepeat : goal.returns-in-KwRepeat
-unfolding same_kind block uniqueness choice if_statement case_statement case_keyword for_statement foreach_statement loop_statement loop_keyword do_statement return_statement system_task void_call increment_statement increment_operator concatenation_assignment left_concatenation
-returns-in-KwRepeat c = rw c.in-KwRepeat.is refl
+returns-in-KwWhile c = elim c.in-KwWhile.is [
+  | inl e ↦ form_of_word _ _ forms.Loop e form_of_KwWhile
+  | inr e ↦ form_of_word _ _ forms.Loop e form_of_KwRepeat
+]
 
 pub returns-in-KwDo : goal.returns-in-KwDo
-unfolding same_kind block uniqueness choice if_statement case_statement case_keyword for_statement foreach_statement loop_statement loop_keyword do_statement return_statement system_task void_call increment_statement increment_operator concatenation_assignment left_concatenation
-returns-in-KwDo c = rw c.in-KwDo.is refl
+returns-in-KwDo c = form_of_word _ _ forms.Do c.in-KwDo.is form_of_KwDo
 
 pub returns-in-KwReturn : goal.returns-in-KwReturn
-unfolding same_kind block uniqueness choice if_statement case_statement case_keyword for_statement foreach_statement loop_statement loop_keyword do_statement return_statement system_task void_call increment_statement increment_operator concatenation_assignment left_concatenation
-returns-in-KwReturn c = rw c.in-KwReturn.is refl
+returns-in-KwReturn c = form_of_word _ _ (forms.Plain plain.Return) c.in-KwReturn.is form_of_KwReturn
 
 pub returns-in-KwBreak : goal.returns-in-KwBreak
-unfolding same_kind block uniqueness choice if_statement case_statement case_keyword for_statement foreach_statement loop_statement loop_keyword do_statement return_statement system_task void_call increment_statement increment_operator concatenation_assignment left_concatenation
-returns-in-KwBreak c = rw c.in-KwBreak.is refl
+returns-in-KwBreak c = form_of_word _ _ (forms.Plain plain.Break) c.in-KwBreak.is form_of_KwBreak
 
 pub returns-in-KwContinue : goal.returns-in-KwContinue
-unfolding same_kind block uniqueness choice if_statement case_statement case_keyword for_statement foreach_statement loop_statement loop_keyword do_statement return_statement system_task void_call increment_statement increment_operator concatenation_assignment left_concatenation
-returns-in-KwContinue c = rw c.in-KwContinue.is refl
+returns-in-KwContinue c = form_of_word _ _ (forms.Plain plain.Continue) c.in-KwContinue.is form_of_KwContinue
 
 pub returns-in-KwVoid : goal.returns-in-KwVoid
-unfolding same_kind block uniqueness choice if_statement case_statement case_keyword for_statement foreach_statement loop_statement loop_keyword do_statement return_statement system_task void_call increment_statement increment_operator concatenation_assignment left_concatenation
-returns-in-KwVoid c = rw c.in-KwVoid.is refl
+returns-in-KwVoid c = form_of_word _ _ (forms.Plain plain.VoidCall) c.in-KwVoid.is form_of_KwVoid
 
 pub returns-in_default : goal.returns-in_default
 returns-in_default c = form_of_other_word c.args.word c.in_default.not-KwBegin c.in_default.not-KwIf c.in_default.not-KwCase c.in_default.not-KwCasez c.in_default.not-KwCasex c.in_default.not-KwUnique c.in_default.not-KwUnique0 c.in_default.not-KwPriority c.in_default.not-KwFor c.in_default.not-KwForeach c.in_default.not-KwWhile c.in_default.not-KwRepeat c.in_default.not-KwDo c.in_default.not-KwReturn c.in_default.not-KwBreak c.in_default.not-KwContinue c.in_default.not-KwVoid

@@ -1,151 +1,63 @@
-use Rattle.std.proofs.Common.{refl}
-use Rattle.sve_grammar.specs.Token.{same_kind}
-use Rattle.sve_grammar.specs.Rule.{opens}
-use Rattle.sve_grammar.specs.Declarations.{lifetime, variable_declaration, data_declaration, parameter_declaration, type_declaration}
-use Rattle.sve_grammar.specs.Types.{parameter_keyword}
-use Rattle.sve_grammar.specs.Expressions.{scoped_name}
-use Rattle.sve_parse_form.proofs.Others.{item_of_other_word}
+use Rattle.std.proofs.Common.{Some, inl, inr}
+use Rattle.sve_parse_form.specs.declared.forms.Declared.TheVariants as declared
+use Rattle.sve_parse_form.specs.declared.forms.ItemForm.TheVariants as items
+use Rattle.sve_parse_form.proofs.FirstTokens.{item_of_word, item_of_other_word, item_of_KwAutomatic, item_of_KwStatic, item_of_KwVar, item_of_KwByte, item_of_KwShortint, item_of_KwInt, item_of_KwLongint, item_of_KwInteger, item_of_KwTime, item_of_KwBit, item_of_KwLogic, item_of_KwReg, item_of_KwString, item_of_KwEnum, item_of_KwStruct, item_of_KwParameter, item_of_KwLocalparam, item_of_KwTypedef, item_of_KwBegin, item_of_KwIf, item_of_KwCase, item_of_KwCasez, item_of_KwCasex, item_of_KwUnique, item_of_KwUnique0, item_of_KwPriority, item_of_KwFor, item_of_KwForeach, item_of_KwWhile, item_of_KwRepeat, item_of_KwDo, item_of_KwReturn, item_of_KwBreak, item_of_KwContinue, item_of_KwVoid}
 use Rattle.sve_parse_form.proofs.forms.item_of_keyword.Goals as goal
 
 pub returns-in-KwAutomatic : goal.returns-in-KwAutomatic
-unfolding same_kind opens lifetime variable_declaration data_declaration parameter_declaration parameter_keyword type_declaration scoped_name
-returns-in-KwAutomatic c = rw c.in-KwAutomatic.is refl
-
-pub returns-in-KwStatic : goal.returns-in-KwStatic
-unfolding same_kind opens lifetime variable_declaration data_declaration parameter_declaration parameter_keyword type_declaration scoped_name
-returns-in-KwStatic c = rw c.in-KwStatic.is refl
+returns-in-KwAutomatic c = elim c.in-KwAutomatic.is [
+  | inl e ↦ item_of_word _ _ (Some (items.Declared declared.Local)) e item_of_KwAutomatic
+  | inr e ↦ item_of_word _ _ (Some (items.Declared declared.Local)) e item_of_KwStatic
+]
 
 pub returns-in-KwVar : goal.returns-in-KwVar
-unfolding same_kind opens lifetime variable_declaration data_declaration parameter_declaration parameter_keyword type_declaration scoped_name
-returns-in-KwVar c = rw c.in-KwVar.is refl
+returns-in-KwVar c = item_of_word _ _ (Some (items.Declared declared.Variable)) c.in-KwVar.is item_of_KwVar
 
 pub returns-in-KwByte : goal.returns-in-KwByte
-unfolding same_kind opens lifetime variable_declaration data_declaration parameter_declaration parameter_keyword type_declaration scoped_name
-returns-in-KwByte c = rw c.in-KwByte.is refl
-
-pub returns-in-KwShortint : goal.returns-in-KwShortint
-unfolding same_kind opens lifetime variable_declaration data_declaration parameter_declaration parameter_keyword type_declaration scoped_name
-returns-in-KwShortint c = rw c.in-KwShortint.is refl
-
-pub returns-in-KwInt : goal.returns-in-KwInt
-unfolding same_kind opens lifetime variable_declaration data_declaration parameter_declaration parameter_keyword type_declaration scoped_name
-returns-in-KwInt c = rw c.in-KwInt.is refl
-
-pub returns-in-KwLongint : goal.returns-in-KwLongint
-unfolding same_kind opens lifetime variable_declaration data_declaration parameter_declaration parameter_keyword type_declaration scoped_name
-returns-in-KwLongint c = rw c.in-KwLongint.is refl
-
-pub returns-in-KwInteger : goal.returns-in-KwInteger
-unfolding same_kind opens lifetime variable_declaration data_declaration parameter_declaration parameter_keyword type_declaration scoped_name
-returns-in-KwInteger c = rw c.in-KwInteger.is refl
-
-pub returns-in-KwTime : goal.returns-in-KwTime
-unfolding same_kind opens lifetime variable_declaration data_declaration parameter_declaration parameter_keyword type_declaration scoped_name
-returns-in-KwTime c = rw c.in-KwTime.is refl
-
-pub returns-in-KwBit : goal.returns-in-KwBit
-unfolding same_kind opens lifetime variable_declaration data_declaration parameter_declaration parameter_keyword type_declaration scoped_name
-returns-in-KwBit c = rw c.in-KwBit.is refl
-
-pub returns-in-KwLogic : goal.returns-in-KwLogic
-unfolding same_kind opens lifetime variable_declaration data_declaration parameter_declaration parameter_keyword type_declaration scoped_name
-returns-in-KwLogic c = rw c.in-KwLogic.is refl
-
-pub returns-in-KwReg : goal.returns-in-KwReg
-unfolding same_kind opens lifetime variable_declaration data_declaration parameter_declaration parameter_keyword type_declaration scoped_name
-returns-in-KwReg c = rw c.in-KwReg.is refl
-
-pub returns-in-KwString : goal.returns-in-KwString
-unfolding same_kind opens lifetime variable_declaration data_declaration parameter_declaration parameter_keyword type_declaration scoped_name
-returns-in-KwString c = rw c.in-KwString.is refl
-
-pub returns-in-KwEnum : goal.returns-in-KwEnum
-unfolding same_kind opens lifetime variable_declaration data_declaration parameter_declaration parameter_keyword type_declaration scoped_name
-returns-in-KwEnum c = rw c.in-KwEnum.is refl
-
-pub returns-in-KwStruct : goal.returns-in-KwStruct
-unfolding same_kind opens lifetime variable_declaration data_declaration parameter_declaration parameter_keyword type_declaration scoped_name
-returns-in-KwStruct c = rw c.in-KwStruct.is refl
+returns-in-KwByte c = elim c.in-KwByte.is [
+  | inl e ↦ item_of_word _ _ (Some (items.Declared declared.Data)) e item_of_KwByte
+  | inr (inl e) ↦ item_of_word _ _ (Some (items.Declared declared.Data)) e item_of_KwShortint
+  | inr (inr (inl e)) ↦ item_of_word _ _ (Some (items.Declared declared.Data)) e item_of_KwInt
+  | inr (inr (inr (inl e))) ↦ item_of_word _ _ (Some (items.Declared declared.Data)) e item_of_KwLongint
+  | inr (inr (inr (inr (inl e)))) ↦ item_of_word _ _ (Some (items.Declared declared.Data)) e item_of_KwInteger
+  | inr (inr (inr (inr (inr (inl e))))) ↦ item_of_word _ _ (Some (items.Declared declared.Data)) e item_of_KwTime
+  | inr (inr (inr (inr (inr (inr (inl e)))))) ↦ item_of_word _ _ (Some (items.Declared declared.Data)) e item_of_KwBit
+  | inr (inr (inr (inr (inr (inr (inr (inl e))))))) ↦ item_of_word _ _ (Some (items.Declared declared.Data)) e item_of_KwLogic
+  | inr (inr (inr (inr (inr (inr (inr (inr (inl e)))))))) ↦ item_of_word _ _ (Some (items.Declared declared.Data)) e item_of_KwReg
+  | inr (inr (inr (inr (inr (inr (inr (inr (inr (inl e))))))))) ↦ item_of_word _ _ (Some (items.Declared declared.Data)) e item_of_KwString
+  | inr (inr (inr (inr (inr (inr (inr (inr (inr (inr (inl e)))))))))) ↦ item_of_word _ _ (Some (items.Declared declared.Data)) e item_of_KwEnum
+  | inr (inr (inr (inr (inr (inr (inr (inr (inr (inr (inr e)))))))))) ↦ item_of_word _ _ (Some (items.Declared declared.Data)) e item_of_KwStruct
+]
 
 pub returns-in-KwParameter : goal.returns-in-KwParameter
-unfolding same_kind opens lifetime variable_declaration data_declaration parameter_declaration parameter_keyword type_declaration scoped_name
-returns-in-KwParameter c = rw c.in-KwParameter.is refl
-
-pub returns-in-KwLocalparam : goal.returns-in-KwLocalparam
-unfolding same_kind opens lifetime variable_declaration data_declaration parameter_declaration parameter_keyword type_declaration scoped_name
-returns-in-KwLocalparam c = rw c.in-KwLocalparam.is refl
+returns-in-KwParameter c = elim c.in-KwParameter.is [
+  | inl e ↦ item_of_word _ _ (Some (items.Declared declared.Parameters)) e item_of_KwParameter
+  | inr e ↦ item_of_word _ _ (Some (items.Declared declared.Parameters)) e item_of_KwLocalparam
+]
 
 pub returns-in-KwTypedef : goal.returns-in-KwTypedef
-unfolding same_kind opens lifetime variable_declaration data_declaration parameter_declaration parameter_keyword type_declaration scoped_name
-returns-in-KwTypedef c = rw c.in-KwTypedef.is refl
+returns-in-KwTypedef c = item_of_word _ _ (Some (items.Declared declared.Typedef)) c.in-KwTypedef.is item_of_KwTypedef
 
 pub returns-in-KwBegin : goal.returns-in-KwBegin
-unfolding same_kind opens lifetime variable_declaration data_declaration parameter_declaration parameter_keyword type_declaration scoped_name
-returns-in-KwBegin c = rw c.in-KwBegin.is refl
-
-pub returns-in-KwIf : goal.returns-in-KwIf
-unfolding same_kind opens lifetime variable_declaration data_declaration parameter_declaration parameter_keyword type_declaration scoped_name
-returns-in-KwIf c = rw c.in-KwIf.is refl
-
-pub returns-in-KwCase : goal.returns-in-KwCase
-unfolding same_kind opens lifetime variable_declaration data_declaration parameter_declaration parameter_keyword type_declaration scoped_name
-returns-in-KwCase c = rw c.in-KwCase.is refl
-
-pub returns-in-KwCasez : goal.returns-in-KwCasez
-unfolding same_kind opens lifetime variable_declaration data_declaration parameter_declaration parameter_keyword type_declaration scoped_name
-returns-in-KwCasez c = rw c.in-KwCasez.is refl
-
-pub returns-in-KwCasex : goal.returns-in-KwCasex
-unfolding same_kind opens lifetime variable_declaration data_declaration parameter_declaration parameter_keyword type_declaration scoped_name
-returns-in-KwCasex c = rw c.in-KwCasex.is refl
-
-pub returns-in-KwUnique : goal.returns-in-KwUnique
-unfolding same_kind opens lifetime variable_declaration data_declaration parameter_declaration parameter_keyword type_declaration scoped_name
-returns-in-KwUnique c = rw c.in-KwUnique.is refl
-
-pub returns-in-KwUnique0 : goal.returns-in-KwUnique0
-unfolding same_kind opens lifetime variable_declaration data_declaration parameter_declaration parameter_keyword type_declaration scoped_name
-returns-in-KwUnique0 c = rw c.in-KwUnique0.is refl
-
-pub returns-in-KwPriority : goal.returns-in-KwPriority
-unfolding same_kind opens lifetime variable_declaration data_declaration parameter_declaration parameter_keyword type_declaration scoped_name
-returns-in-KwPriority c = rw c.in-KwPriority.is refl
-
-pub returns-in-KwFor : goal.returns-in-KwFor
-unfolding same_kind opens lifetime variable_declaration data_declaration parameter_declaration parameter_keyword type_declaration scoped_name
-returns-in-KwFor c = rw c.in-KwFor.is refl
-
-pub returns-in-KwForeach : goal.returns-in-KwForeach
-unfolding same_kind opens lifetime variable_declaration data_declaration parameter_declaration parameter_keyword type_declaration scoped_name
-returns-in-KwForeach c = rw c.in-KwForeach.is refl
-
-pub returns-in-KwWhile : goal.returns-in-KwWhile
-unfolding same_kind opens lifetime variable_declaration data_declaration parameter_declaration parameter_keyword type_declaration scoped_name
-returns-in-KwWhile c = rw c.in-KwWhile.is refl
-
-pub returns-in-KwRepeat : goal.returns-in-KwRepeat
-unfolding same_kind opens lifetime variable_declaration data_declaration parameter_declaration parameter_keyword type_declaration scoped_name
-returns-in-KwRepeat c = rw c.in-KwRepeat.is refl
-
-pub returns-in-KwDo : goal.returns-in-KwDo
-unfolding same_kind opens lifetime variable_declaration data_declaration parameter_declaration parameter_keyword type_declaration scoped_name
-returns-in-KwDo c = rw c.in-KwDo.is refl
-
-pub returns-in-KwReturn : goal.returns-in-KwReturn
-unfolding same_kind opens lifetime variable_declaration data_declaration parameter_declaration parameter_keyword type_declaration scoped_name
-returns-in-KwReturn c = rw c.in-KwReturn.is refl
-
-pub returns-in-KwBreak : goal.returns-in-KwBreak
-unfolding same_kind opens lifetime variable_declaration data_declaration parameter_declaration parameter_keyword type_declaration scoped_name
-returns-in-KwBreak c = rw c.in-KwBreak.is refl
-
-pub returns-in-KwContinue : goal.returns-in-KwContinue
-unfolding same_kind opens lifetime variable_declaration data_declaration parameter_declaration parameter_keyword type_declaration scoped_name
-returns-in-KwContinue c = rw c.in-KwContinue.is refl
-
-pub returns-in-KwVoid : goal.returns-in-KwVoid
-unfolding same_kind opens lifetime variable_declaration data_declaration parameter_declaration parameter_keyword type_declaration scoped_name
-returns-in-KwVoid c = rw c.in-KwVoid.is refl
+returns-in-KwBegin c = elim c.in-KwBegin.is [
+  | inl e ↦ item_of_word _ _ (Some items.Statement) e item_of_KwBegin
+  | inr (inl e) ↦ item_of_word _ _ (Some items.Statement) e item_of_KwIf
+  | inr (inr (inl e)) ↦ item_of_word _ _ (Some items.Statement) e item_of_KwCase
+  | inr (inr (inr (inl e))) ↦ item_of_word _ _ (Some items.Statement) e item_of_KwCasez
+  | inr (inr (inr (inr (inl e)))) ↦ item_of_word _ _ (Some items.Statement) e item_of_KwCasex
+  | inr (inr (inr (inr (inr (inl e))))) ↦ item_of_word _ _ (Some items.Statement) e item_of_KwUnique
+  | inr (inr (inr (inr (inr (inr (inl e)))))) ↦ item_of_word _ _ (Some items.Statement) e item_of_KwUnique0
+  | inr (inr (inr (inr (inr (inr (inr (inl e))))))) ↦ item_of_word _ _ (Some items.Statement) e item_of_KwPriority
+  | inr (inr (inr (inr (inr (inr (inr (inr (inl e)))))))) ↦ item_of_word _ _ (Some items.Statement) e item_of_KwFor
+  | inr (inr (inr (inr (inr (inr (inr (inr (inr (inl e))))))))) ↦ item_of_word _ _ (Some items.Statement) e item_of_KwForeach
+  | inr (inr (inr (inr (inr (inr (inr (inr (inr (inr (inl e)))))))))) ↦ item_of_word _ _ (Some items.Statement) e item_of_KwWhile
+  | inr (inr (inr (inr (inr (inr (inr (inr (inr (inr (inr (inl e))))))))))) ↦ item_of_word _ _ (Some items.Statement) e item_of_KwRepeat
+  | inr (inr (inr (inr (inr (inr (inr (inr (inr (inr (inr (inr (inl e)))))))))))) ↦ item_of_word _ _ (Some items.Statement) e item_of_KwDo
+  | inr (inr (inr (inr (inr (inr (inr (inr (inr (inr (inr (inr (inr (inl e))))))))))))) ↦ item_of_word _ _ (Some items.Statement) e item_of_KwReturn
+  | inr (inr (inr (inr (inr (inr (inr (inr (inr (inr (inr (inr (inr (inr (inl e)))))))))))))) ↦ item_of_word _ _ (Some items.Statement) e item_of_KwBreak
+  | inr (inr (inr (inr (inr (inr (inr (inr (inr (inr (inr (inr (inr (inr (inr (inl e))))))))))))))) ↦ item_of_word _ _ (Some items.Statement) e item_of_KwContinue
+  | inr (inr (inr (inr (inr (inr (inr (inr (inr (inr (inr (inr (inr (inr (inr (inr e))))))))))))))) ↦ item_of_word _ _ (Some items.Statement) e item_of_KwVoid
+]
 
 pub returns-in_default : goal.returns-in_default
 returns-in_default c = item_of_other_word c.args.word c.in_default.not-KwAutomatic c.in_default.not-KwStatic c.in_default.not-KwVar c.in_default.not-KwByte c.in_default.not-KwShortint c.in_default.not-KwInt c.in_default.not-KwLongint c.in_default.not-KwInteger c.in_default.not-KwTime c.in_default.not-KwBit c.in_default.not-KwLogic c.in_default.not-KwReg c.in_default.not-KwString c.in_default.not-KwEnum c.in_default.not-KwStruct c.in_default.not-KwParameter c.in_default.not-KwLocalparam c.in_default.not-KwTypedef c.in_default.not-KwBegin c.in_default.not-KwIf c.in_default.not-KwCase c.in_default.not-KwCasez c.in_default.not-KwCasex c.in_default.not-KwUnique c.in_default.not-KwUnique0 c.in_default.not-KwPriority c.in_default.not-KwFor c.in_default.not-KwForeach c.in_default.not-KwWhile c.in_default.not-KwRepeat c.in_default.not-KwDo c.in_default.not-KwReturn c.in_default.not-KwBreak c.in_default.not-KwContinue c.in_default.not-KwVoid
