@@ -1,5 +1,5 @@
 -- The alternatives of item (IEEE 1800-2017, A.1.4) and of unit_item (A.1.11) by their numbers from 0, and to which of them a token leads (own).
-use Rattle.std.specs.Prelude.{ℕ, suc, List, [], ◌∷◌, Option, Some, None, Result, Ok, Err, true, false, if◌then◌else◌, ◌≡◌}
+use Rattle.std.specs.Prelude.{ℕ, List, [], ◌∷◌, Option, Some, None, Result, Ok, Err, true, false, ◌≡◌}
 use Rattle.sve_token.specs.declared.kind.Kind.{Kind}
 use Rattle.sve_token.specs.declared.kind.Kind.TheVariants.{Semicolon, Identifier}
 use Rattle.sve_token.specs.declared.token.Token.{Token}

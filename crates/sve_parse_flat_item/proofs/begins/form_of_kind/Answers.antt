@@ -1,20 +1,14 @@
-use Rattle.std.proofs.Common.{refl}
-use Rattle.sve_token.specs.declared.kind.Kind.TheVariants.{Semicolon, SystemName, Identifier}
-use Rattle.sve_grammar.specs.Token.{same_kind}
-use Rattle.sve_parse_flat_item.proofs.FirstTokens.{first, no_item_kind}
+use Rattle.sve_parse_flat_item.proofs.FirstTokens.{kind_same, no_item_kind, of_Semicolon, of_SystemName, of_Identifier}
 use Rattle.sve_parse_flat_item.proofs.begins.form_of_kind.Goals as goal
 
 pub returns-in-Semicolon : goal.returns-in-Semicolon
-unfolding same_kind
-returns-in-Semicolon c = rw c.in-Semicolon.is (first Semicolon 0 refl)
+returns-in-Semicolon c = kind_same _ _ 0 c.in-Semicolon.is of_Semicolon
 
 pub returns-in-SystemName : goal.returns-in-SystemName
-unfolding same_kind
-returns-in-SystemName c = rw c.in-SystemName.is (first SystemName 17 refl)
+returns-in-SystemName c = kind_same _ _ 17 c.in-SystemName.is of_SystemName
 
 pub returns-in-Identifier : goal.returns-in-Identifier
-unfolding same_kind
-returns-in-Identifier c = rw c.in-Identifier.is (first Identifier 18 refl)
+returns-in-Identifier c = kind_same _ _ 18 c.in-Identifier.is of_Identifier
 
 pub returns-in_default : goal.returns-in_default
 returns-in_default c = no_item_kind c.args.kind c.in_default.not-Keyword c.in_default.not-Semicolon c.in_default.not-SystemName c.in_default.not-Identifier
