@@ -1,0 +1,19 @@
+//! A table of rows of names: what they stand for in a chain of scopes, and the rounds of packages. Each line of the input is
+//! answered by one line: the line itself, `=>`, and what came of it. A line with nothing on it, or that begins with `#`, is
+//! answered by itself. `no such row` is the answer to a line of no form.
+#![tactic(auto)]
+
+mod chain;
+mod kinds;
+mod many;
+mod names;
+mod packages;
+mod spelled;
+
+use names::Names;
+use std::io;
+use sve_row::answer_lines;
+
+fn main(rt: HostRuntime) -> io::Result<()> {
+    answer_lines(&rt, &Names)
+}
