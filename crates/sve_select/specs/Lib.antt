@@ -1,0 +1,5 @@
+pub mod Choices
+pub mod Pieces
+pub mod Selects
+pub mod Members
+pub mod Extents
