@@ -64,6 +64,10 @@ module _ {Q : Type 0} (answers : FilesValue → Q → ℕ → Answer → Type 0)
   placed : (history : HistoryValue) (world : WorldValue Q) (client : ℕ) (seat other : SeatValue Q SnapshotValue) → IsOfClient world client other → IsSeat answers history client seat → IsSeat answers history (client - 1 + 1) seat
   placed history world client seat other there is = subst (λ (n : ℕ). IsSeat answers history n seat) (sym (number_is world client other there)) is
 
+  -- the numbers of the client's entries are lower
+  pub commands_below : (world : WorldValue Q) (client command : ℕ) (edits : List Edit) → MayCommit world client command edits → World world → All (λ earlier. earlier < command) (commands_of client world.history.entries)
+  commands_below world client command edits may is = subst (All (λ earlier. earlier < command)) (sym (known world client may.seat may.known is).own) (accepted_below may.seat.told command may.next)
+
   pub look_leads : (world : WorldValue Q) (client : ℕ) → MayLook world client → World world → World (after_look world client)
   look_leads world client may is =
       let seat = may.seat in
@@ -122,7 +126,7 @@ module _ {Q : Type 0} (answers : FilesValue → Q → ℕ → Answer → Type 0)
           let number = length world.history.entries + 1 in
           let long : length (world.history.entries ++ e ∷ []) ≡ number = length-append world.history.entries (e ∷ []) in
           let after = hearing (looking seat number) (Committed command edits (Accepted number)) in
-          let below : All (λ earlier. earlier < command) (commands_of client world.history.entries) = subst (All (λ earlier. earlier < command)) (sym own.own) (accepted_below seat.told command may.next) in
+          let below = commands_below world client command edits may is in
           subst (λ (s : SeatValue Q SnapshotValue). IsWorld answers (grown world.history (e ∷ [])) (set world.seats (client - 1) s))
           ((λ k. hearing (looking (sym (seat_is world client seat there) k) (sym long k)) (Committed command edits (Accepted number))))
           (world_enters answers world.history world.seats (client - 1) after e (sym (number_is world client seat there)) (place_within world client seat there)

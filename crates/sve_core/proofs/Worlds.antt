@@ -7,6 +7,7 @@ use Rattle.sve_history.specs.declared.entry.Entry.{Entry}
 use Rattle.sve_history.specs.Histories.{HistoryValue, IsOpening, IsLegal}
 use Rattle.sve_store.specs.declared.answer.Answer.{Answer}
 use Rattle.sve_store.specs.Snapshots.{SnapshotValue}
+use Rattle.sve_core.specs.Commits.{CoreValue}
 use Rattle.sve_core.specs.Seats.{SeatValue, new_seat, IsSeat, IsWorld}
 use Rattle.sve_core.proofs.Later.{grown}
 use Rattle.sve_core.proofs.Changes.{seat_later}
@@ -81,3 +82,8 @@ world_opens answers opening n untouched = record {
     held = tt;
   });
 }
+
+pub opens_as : {Q : Type 0} (answers : FilesValue → Q → ℕ → Answer → Type 0) (opening : FilesValue) (core : CoreValue) (seats : List (SeatValue Q SnapshotValue)) (n : ℕ) → IsOpening opening
+    → core ≡ record { history = record { opening = opening; entries = [] } } → seats ≡ replicate n new_seat → IsWorld answers core.history seats
+opens_as answers opening core seats n untouched is new =
+    subst (IsWorld answers core.history) (sym new) (subst (λ (c : CoreValue). IsWorld answers c.history (replicate n new_seat)) (sym is) (world_opens answers opening n untouched))

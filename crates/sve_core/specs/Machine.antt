@@ -30,6 +30,10 @@ pub record IsOfClient {Q : Type 0} (world : WorldValue Q) (client : ℕ) (seat :
   pub number : 1 ≤ client
   pub there : slice_get world.seats (client - 1) ≡ Some seat
 
+-- the client of this number is there
+abbrev pub IsClient : {Q : Type 0} → WorldValue Q → ℕ → Type 0
+IsClient world client = (1 ≤ client) × (client ≤ length world.seats)
+
 -- the commands of the client so far have lower numbers
 abbrev pub IsNext : {Q : Type 0} → SeatValue Q SnapshotValue → ℕ → Type 0
 IsNext seat command = All (λ earlier. earlier < command) (map command_of seat.told)

@@ -6,6 +6,7 @@ use Rattle.sve_store.specs.declared.answer.Answer.{Answer}
 use Rattle.sve_store.specs.Snapshots.{SnapshotValue, IsRevision}
 use Rattle.sve_core.specs.declared.told.Told.{Told}
 use Rattle.sve_core.specs.declared.open.Open.{Open}
+use Rattle.sve_core.specs.declared.seat.Seat.{Seat}
 use Rattle.sve_core.specs.Outcomes.{named, front_after, command_of, accepted, AreHonest}
 
 pub record SeatValue (Q S : Type 0) : Type 0 where
@@ -17,6 +18,9 @@ pub record SeatValue (Q S : Type 0) : Type 0 where
   pub told : List (Told Q)
   -- the snapshot that it holds
   pub open_at : Option (Open S)
+
+abbrev pub seat_value : {Q S : Type 0} → Seat Q S → SeatValue Q S
+seat_value seat = record { front = seat.front; looks = seat.looks.items; told = seat.told.items; open_at = seat.open }
 
 -- a client that knows nothing
 abbrev pub new_seat : {Q S : Type 0} → SeatValue Q S

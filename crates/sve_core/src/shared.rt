@@ -1,7 +1,7 @@
 //! The value that all clients share.
 ghost use Rattle.std.specs.Prelude.{◌≡◌, ◌<◌, ◌≤◌, ◌^◌, [], length, All, IfOk, OnOk, OnErr};
 ghost use Rattle.sve_text.specs.Refusals.{refusal_of};
-ghost use Rattle.sve_history.specs.Histories.{IsOpening, newest_files, commands_of, IsLegal};
+ghost use Rattle.sve_history.specs.Histories.{IsOpening, newest_files, commands_of};
 ghost use Rattle.sve_core.specs.Commits.{committed, commit_told};
 
 use crate::commit::Commit;

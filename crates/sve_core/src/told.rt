@@ -1,6 +1,6 @@
 //! What the clients of a world were told.
 ghost use Rattle.std.specs.Prelude.{◌≡◌};
-ghost use Rattle.sve_core.specs.Outcomes.{named};
+ghost use Rattle.sve_core.specs.Outcomes.{named, command_of};
 
 use crate::commit::{Commit, Outcome};
 use sve_bytes::List;
@@ -27,6 +27,16 @@ pub enum Told<Q> {
 }
 
 impl<Q> Told<Q> {
+    /// Which command of its client it is, from 1. It takes no memory.
+    pub fn command(&self) -> u32
+        ensures { result ≡ command_of self.now }
+    {
+        match self {
+            Told::Committed { command, .. } => *command,
+            Told::Asked { command, .. } => *command,
+        }
+    }
+
     /// The largest revision that the client was told of with it. It takes no memory.
     pub fn named(&self) -> u64
         ensures { result ≡ named self.now }
