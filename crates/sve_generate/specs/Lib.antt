@@ -1,0 +1,4 @@
+pub mod Constructs
+pub mod BlockNames
+pub mod Loops
+pub mod Metering
