@@ -1,0 +1,9 @@
+pub mod Alike
+pub mod Asking
+pub mod Gaining
+pub mod Lists
+pub mod Puts
+pub mod Replacing
+pub mod Stays
+pub mod Valid
+pub mod Watching

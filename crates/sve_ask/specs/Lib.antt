@@ -1,0 +1,4 @@
+pub mod Current
+pub mod Gains
+pub mod Sound
+pub mod Watched
