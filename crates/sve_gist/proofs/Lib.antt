@@ -1,0 +1,5 @@
+pub mod InStatements
+pub mod InItems
+pub mod InDesigns
+pub mod Decided
+pub mod Same

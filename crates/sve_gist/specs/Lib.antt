@@ -1,0 +1,4 @@
+pub mod Mentions
+pub mod Designs
+pub mod Gists
+pub mod Index
