@@ -1,0 +1,5 @@
+pub mod Ranges
+pub mod Outcomes
+pub mod Same
+pub mod Names
+pub mod Members
