@@ -1,4 +1,2 @@
+pub mod Asks
 pub mod Commits
-pub mod Machine
-pub mod Outcomes
-pub mod Seats

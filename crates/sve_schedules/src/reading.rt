@@ -5,11 +5,11 @@ ghost use Rattle.sve_history.specs.Histories.{IsOpening};
 use crate::texts::Texts;
 use std::alloc::Global;
 use sve_bytes::{List, Name, NoMemory};
-use sve_core::{Event, EventOf};
 use sve_history::laws::opening_files_are_untouched;
 use sve_row::{decoded, name_of, number_of, offset_of, parts_of, word};
 use sve_store::Fresh;
 use sve_text::{Edit, Files, MAX_FILE_LEN, Mode, Text};
+use sve_world::{Event, EventOf};
 
 /// How many clients a word says, 1 to 16.
 pub fn clients_of(word: &str) -> Option<u32>

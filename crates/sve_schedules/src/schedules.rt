@@ -3,9 +3,10 @@ use crate::reading::{clients_of, event_of, files_of};
 use crate::showing::{show_entries, show_files, show_what_came};
 use crate::texts::Texts;
 use std::alloc::Global;
+use sve_allowed::allows;
 use sve_bytes::NoMemory;
-use sve_core::{World, step};
 use sve_row::{Table, field, number_of, parts_of, word};
+use sve_world::{World, step};
 
 /// The rows of this table.
 ///
@@ -56,7 +57,7 @@ fn happens(
     let Some((client, event)) = event_of(alloc, words)? else {
         return Ok(false);
     };
-    if !world.allows(&event) {
+    if !allows(world, &event) {
         out.push_str("not now; ")?;
         return Ok(true);
     }

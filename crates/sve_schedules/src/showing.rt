@@ -1,14 +1,16 @@
 //! How answers spell what came of events.
-ghost use Rattle.sve_core.specs.Machine.{IsClient};
+ghost use Rattle.sve_world.specs.Machine.{IsClient};
 
 use crate::texts::Texts;
 use std::alloc::Global;
 use std::fmt::Write;
 use sve_bytes::NoMemory;
-use sve_core::{Commit, Outcome, Told, World};
+use sve_core::{Commit, Outcome};
 use sve_history::History;
 use sve_row::spell;
+use sve_seat::Told;
 use sve_text::{Files, Why};
+use sve_world::World;
 
 /// Adds what came of an event of this kind for its client, which is there.
 pub fn show_what_came(

@@ -19,8 +19,8 @@ use Rattle.sve_store.specs.declared.answer.Answer.TheVariants.{Done, Spent as Un
 use Rattle.sve_store.specs.Snapshots.{SnapshotValue}
 use Rattle.sve_core.specs.declared.commit.Commit.{Commit}
 use Rattle.sve_core.specs.declared.commit.Commit.TheVariants.{Accepted, Refused, Full}
+use Rattle.sve_core.specs.Asks.{snapshot_of, outcome_of}
 use Rattle.sve_core.specs.Commits.{commit_told}
-use Rattle.sve_core.specs.Machine.{snapshot_of, outcome_of}
 use Rattle.sve_watch.specs.Looks.{looks_of, HasLooked}
 use Rattle.sve_watch.proofs.Seen.{looks_are}
 use Rattle.sve_session.specs.Shared.{history_of}

@@ -12,7 +12,7 @@ use Rattle.sve_store.specs.declared.answer.Answer.TheVariants.{Done, Spent as Un
 use Rattle.sve_store.specs.Snapshots.{SnapshotValue}
 use Rattle.sve_core.specs.declared.commit.Outcome.{Outcome}
 use Rattle.sve_core.specs.declared.commit.Outcome.TheVariants.{Answered, Spent, Cancelled}
-use Rattle.sve_core.specs.Machine.{snapshot_of}
+use Rattle.sve_core.specs.Asks.{snapshot_of}
 use Rattle.sve_watch.specs.Looks.{looks_of, SawNothingNewer, SawNewer}
 use Rattle.sve_session.specs.Shared.{history_of}
 

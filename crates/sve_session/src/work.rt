@@ -4,7 +4,7 @@ ghost use Rattle.sve_text.specs.declared.edit.Mode.TheVariants.{Pinned};
 ghost use Rattle.sve_store.specs.Made.{values_of};
 ghost use Rattle.sve_store.specs.Values.{IsAnswer};
 ghost use Rattle.sve_watch.specs.Looks.{HasLooked};
-ghost use Rattle.sve_core.specs.Machine.{outcome_of};
+ghost use Rattle.sve_core.specs.Asks.{outcome_of};
 ghost use Rattle.sve_session.specs.Asks.{IsOutcome};
 
 use std::alloc::{AllocError, Global};

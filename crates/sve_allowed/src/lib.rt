@@ -1,0 +1,6 @@
+//! Which events may come in a world.
+#![tactic(auto)]
+
+mod allowed;
+
+pub use allowed::allows;

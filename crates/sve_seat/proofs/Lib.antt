@@ -1,0 +1,4 @@
+pub mod Changes
+pub mod Later
+pub mod Rising
+pub mod Worlds
