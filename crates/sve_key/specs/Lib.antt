@@ -1,0 +1,4 @@
+pub mod KeyOrder
+pub mod Parts
+pub mod Readings
+pub mod Values
