@@ -1,0 +1,5 @@
+use Rattle.sve_make.specs.AtFiles.{reading}
+use Rattle.sve_make.proofs.needs_are_read.Goals as goal
+
+pub returns : goal.returns
+returns c = reading
