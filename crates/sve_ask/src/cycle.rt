@@ -111,7 +111,7 @@ pub(crate) fn anew<K: Ending, W: Watch>(
     ensures serves { IfOk result (λ memo. K.serves memo.finding.value fuel ≡ true) }
     ensures gains { IsSettled (record { cmp = K.Key.cmp; given = K.given; make = K.make; ranked = K.ranked; serves = K.serves }) lent.now.snapshot.files lent.now.snapshot.revision fresh.old → (made : List K.Key) × Gains (record { cmp = K.Key.cmp; given = K.given; make = K.make; ranked = K.ranked; serves = K.serves }) lent.now.snapshot.files (K.height (files_of lent.now.snapshot.history lent.now.snapshot.revision)) lent.now.memos lent.now.snapshot.revision ((K.height (files_of lent.now.snapshot.history lent.now.snapshot.revision)) key.now) 0 (InReachBelow (record { cmp = K.Key.cmp; given = K.given; make = K.make; ranked = K.ranked; serves = K.serves }) lent.now.snapshot.files (overlaid K.Key.cmp fresh.old lent.now.memos) key.now fuel) fresh.old fresh.new made × (K.counted kinds.new ≤ K.counted kinds.old + (length made + spent result)) × IfOk result (λ memo. AllCurrent (record { cmp = K.Key.cmp; given = K.given; make = K.make; ranked = K.ranked; serves = K.serves }) lent.now.snapshot.files (found_in K.Key.cmp fresh.new) (λ j. Unit {0}) memo.finding.reads × ((j : K.Key) (t : ℕ) → IsOneOf memo.finding.reads (j, t) → Reads (record { cmp = K.Key.cmp; given = K.given; make = K.make; ranked = K.ranked; serves = K.serves }) lent.now.snapshot.files key.now fuel j)) }
 {
-    let mut noted: Vec<Known<K::Key, K::Value>> = Vec::new(alloc);
+    let mut noted: Known<K::Key, K::Value> = Known::new(alloc);
     let mut reads: Vec<(K::Key, u64)> = Vec::new(alloc);
     'tries: loop {
         match one_try(alloc, kinds, &noted, key, fuel)? {

@@ -3,7 +3,6 @@ ghost use Rattle.std.specs.Prelude.{◌≡◌, ◌⊎◌, ◌++◌, [], ◌∷�
 ghost use Rattle.std.specs.Arc.{arc_value};
 ghost use Rattle.sve_io.specs.declared.halt.Halt.TheVariants.{NoMemory as NoMoreMemory};
 ghost use Rattle.sve_store.specs.Made.{IsOneOf};
-ghost use Rattle.sve_store.specs.Tries.{known_values};
 ghost use Rattle.sve_memo.specs.Memos.{FindingValue, MemoValue, put_memo};
 ghost use Rattle.sve_ask.specs.Current.{found_in, overlaid, Serving, Lacking};
 ghost use Rattle.sve_ask.specs.Watched.{IsWatched};
@@ -133,15 +132,15 @@ pub(crate) fn memo_of<K: Kinds>(
 pub(crate) fn note<K: Keyed>(
     alloc: Global,
     reads: &mut Vec<(K::Key, u64)>,
-    known: &mut Vec<Known<K::Key, K::Value>>,
+    known: &mut Known<K::Key, K::Value>,
     key: K::Key,
     value: Arc<K::Value>,
     stamp: u64,
 ) -> Result<(), Halt>
-    ensures { MatchResult result (λ _. (reads.new.items ≡ reads.old.items ++ (key, stamp) ∷ []) × (known_values known.new.items ≡ known_values known.old.items ++ (key, arc_value value) ∷ [])) (λ halt. halt ≡ NoMoreMemory) }
+    ensures { MatchResult result (λ _. (reads.new.items ≡ reads.old.items ++ (key, stamp) ∷ []) × (known.new ≡ known.old ++ (key, arc_value value) ∷ [])) (λ halt. halt ≡ NoMoreMemory) }
 {
     reads.push((K::copy_key(alloc, &key)?, stamp))?;
-    known.push(Known { key, value })?;
+    known.put(alloc, key, value)?;
     Ok(())
 }
 

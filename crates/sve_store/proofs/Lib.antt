@@ -1,3 +1,4 @@
 pub mod Lookups
+pub mod Notes
 pub mod Tables
 pub mod Ways

@@ -1,19 +1,13 @@
 -- What is told on the way to the value of a key.
-use Rattle.std.proofs.Common.{◌≡◌, ℕ, Bool, false, List, [], ◌∷◌, ◌++◌, Option, Some, None, is_some, inl, inr, refl, sym, ap, ◌∙◌, subst}
+use Rattle.std.proofs.Common.{◌≡◌, ℕ, Bool, false, List, Option, Some, None, is_some, inl, inr, sym, ap, ◌∙◌, subst}
 use Rattle.std.specs.Prelude.{option_map}
 use Rattle.std.specs.Arc.{arc_value}
 use Rattle.std.specs.declared.sync.Arc.{Arc}
 use Rattle.std.specs.declared.cmp.Ordering.{Ordering}
 use Rattle.std.specs.declared.cmp.Ordering.TheVariants.{Equal}
-use Rattle.sve_store.specs.declared.tries.Known.{Known}
 use Rattle.sve_store.specs.Made.{Made, value_in, values_of}
 use Rattle.sve_store.specs.Values.{Gives, is_needed, IsValue, TellsValues, OnTheWay, at_first, one_more}
-use Rattle.sve_store.specs.Tries.{known_values}
 use Rattle.sve_store.proofs.Lookups.{value-parts}
-
-pub known_values-push : {K V : Type 0} (known : List (Known K V)) (one : Known K V) → known_values (known ++ one ∷ []) ≡ known_values known ++ ((one.key, arc_value one.value) ∷ [])
-known_values-push [] one = refl
-known_values-push (x ∷ known) one = ap (λ l. (x.key, arc_value x.value) ∷ l) (known_values-push known one)
 
 module _ {K V : Type 0} (cmp : K → K → Ordering) (given : K → Option V) (make : K → ℕ → (K → Option V) → Made K V) where
   pub not_given : (k : K) (fuel : ℕ) (told : List (K × V)) → OnTheWay cmp given make k fuel told → given k ≡ None

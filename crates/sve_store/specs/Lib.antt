@@ -1,4 +1,5 @@
 pub mod Made
+pub mod Noted
 pub mod Snapshots
 pub mod Told
 pub mod Tries

@@ -2,11 +2,7 @@
 use Rattle.std.specs.Prelude.{ℕ, suc, ◌+◌, ◌-◌, ◌^◌, ◌≡◌, ◌⊎◌, min, cond, is_some, List, [], ◌∷◌, Option, Some, None, option_map}
 use Rattle.std.specs.declared.cmp.Ordering.{Ordering}
 use Rattle.std.specs.Ordering.{match_ordering}
-
--- a key is needed that is not told, or there is a value
-pub data Made (K : Type 0) (V : Type 0) : Type 0 where
-  Needs : K → Made K V
-  Done : V → Made K V
+pub use Rattle.sve_told.specs.Made.{Made, Needs, Done}
 
 -- the count with one value more; it stands at the last number of 64 bits
 abbrev pub next_count : ℕ → ℕ

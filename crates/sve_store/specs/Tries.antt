@@ -1,15 +1,8 @@
--- What is told in one try, and what the try comes to.
-use Rattle.std.specs.Prelude.{ℕ, ◌≡◌, List, [], ◌∷◌}
-use Rattle.std.specs.Arc.{arc_value}
+-- What a try comes to.
+use Rattle.std.specs.Prelude.{ℕ, ◌≡◌}
 use Rattle.sve_store.specs.Made.{Made, Needs, Done, next_count}
-use Rattle.sve_store.specs.declared.tries.Known.{Known}
 use Rattle.sve_store.specs.declared.tries.Tried.{Tried}
 use Rattle.sve_store.specs.declared.tries.Tried.TheVariants.{Came, Wants}
-
--- the values of some known keys
-abbrev pub known_values : {K V : Type 0} → List (Known K V) → List (K × V)
-known_values [] = []
-known_values (known ∷ others) = (known.key, arc_value known.value) ∷ known_values others
 
 -- the try came to what the definition gives
 abbrev pub IsTried : {K V : Type 0} → Made K V → Tried K V → Type 0

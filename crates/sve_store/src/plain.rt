@@ -8,8 +8,9 @@ ghost use Rattle.sve_store.specs.Values.{IsValue, IsAnswer};
 
 use crate::answer::Answer;
 use crate::kinds::{Ending, Fetch, Start};
+use crate::known::Known;
 use crate::snapshot::Snapshot;
-use crate::tries::{Known, Tried, one_try};
+use crate::tries::{Tried, one_try};
 use std::alloc::{AllocError, Global};
 use std::sync::Arc;
 use sve_bytes::NoMemory;
@@ -31,13 +32,13 @@ fn value_of<K: Ending>(
     if let Some((value, _)) = kinds.input(alloc, key, files)? {
         return Ok(value);
     }
-    let mut known: Vec<Known<K::Key, K::Value>> = Vec::new(alloc);
+    let mut known: Known<K::Key, K::Value> = Known::new(alloc);
     'tries: loop {
         match one_try(alloc, kinds, &known, key, fuel)? {
             Tried::Came(value) => return Ok(Arc::new(alloc, value)?),
             Tried::Wants(needed) => {
                 let value = value_of(alloc, kinds, files, &needed, 0)?;
-                known.push(Known { key: needed, value })?;
+                known.put(alloc, needed, value)?;
             }
         }
     }

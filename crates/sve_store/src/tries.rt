@@ -1,27 +1,16 @@
 //! One try at the value of a key, over the values that are known by now.
-ghost use Rattle.std.specs.Prelude.{◌≡◌, ◌<◌, ℕ, List, [], Option, Some, None, IfOk, IsErr, MatchOption, length, slice_index_or, refl, false};
+ghost use Rattle.std.specs.Prelude.{◌≡◌, ℕ, List, [], Option, Some, None, IfOk, IsErr, refl, false};
 ghost use Rattle.std.proofs.Common.{◌∙◌};
-ghost use Rattle.std.specs.Arc.{arc_value};
 ghost use Rattle.sve_text.specs.Files.{FilesValue};
 ghost use Rattle.sve_store.specs.Made.{value_in};
-ghost use Rattle.sve_store.specs.Tries.{known_values, IsTried, count_after};
-ghost use Rattle.sve_store.specs.declared.tries.Known.{Known};
+ghost use Rattle.sve_store.specs.Tries.{IsTried, count_after};
 
 use crate::kinds::{Fetch, Keyed, Kinds};
+use crate::known::Known;
 use std::alloc::{AllocError, Global};
-use std::cmp::Ordering;
 use std::sync::Arc;
 use sve_bytes::NoMemory;
 use sve_io::Halt;
-
-/// A key with its value.
-#[derive(Drop)]
-pub struct Known<Q, V> {
-    /// The key.
-    pub key: Q,
-    /// Its value.
-    pub value: Arc<V>,
-}
 
 /// What a try came to.
 #[derive(Drop)]
@@ -35,26 +24,14 @@ pub enum Tried<Q, V> {
 /// What is known in one try. At a key that is not known it halts, and notes which.
 struct Try<'a, K: Keyed> {
     kinds: &'a mut K,
-    known: &'a [Known<K::Key, K::Value>],
+    known: &'a Known<K::Key, K::Value>,
     missing: Option<K::Key>,
-}
-
-/// Where the first value of a key stands among those that are known.
-fn place<Q: Ord, V>(known: &[Known<Q, V>], key: &Q) -> Option<usize>
-    ensures { MatchOption result (value_in Q.cmp (known_values known.now) key.now ≡ None) (λ i. (i < length known.now) × ((d : Known Q V) → value_in Q.cmp (known_values known.now) key.now ≡ Some (arc_value (slice_index_or known.now i d).value))) }
-{
-    for (i, one) in known.iter().enumerate() {
-        if key.cmp(&one.key) == Ordering::Equal {
-            return Some(i);
-        }
-    }
-    None
 }
 
 impl<'a, K: Keyed> Fetch<K> for Try<'a, K> {
     ghost kind = { λ s. s.kinds.now };
 
-    ghost tells = { λ s k fuel v. value_in K.Key.cmp (known_values s.known.now) k ≡ Some v };
+    ghost tells = { λ s k fuel v. value_in K.Key.cmp s.known.now k ≡ Some v };
 
     ghost keeps = { λ s t. (t.kinds.ghost_name ≡ s.kinds.ghost_name) × ((files : FilesValue) → K.fits t.kinds.now files ≡ K.fits s.kinds.now files) };
 
@@ -75,8 +52,8 @@ impl<'a, K: Keyed> Fetch<K> for Try<'a, K> {
     }
 
     fn fetch(&mut self, alloc: Global, k: &K::Key, _fuel: u32) -> Result<Arc<K::Value>, Halt> {
-        match place(self.known, k) {
-            Some(i) => match Arc::try_clone(&self.known[i].value) {
+        match self.known.find(k) {
+            Some(value) => match Arc::try_clone(value) {
                 Ok(value) => Ok(value),
                 Err(AllocError) => Err(Halt::NoMemory),
             },
@@ -106,7 +83,7 @@ impl<'a, K: Kinds> Try<'a, K> {
         requires begun { self.old.missing ≡ None }
         ensures same_reference { self.new.kinds.ghost_name ≡ self.old.kinds.ghost_name }
         ensures fit { (files : FilesValue) → K.fits self.new.kinds.now files ≡ K.fits self.old.kinds.now files }
-        ensures tried { IfOk result (IsTried (K.make key.now fuel (value_in K.Key.cmp (known_values self.old.known.now)))) }
+        ensures tried { IfOk result (IsTried (K.make key.now fuel (value_in K.Key.cmp self.old.known.now))) }
         ensures count { IfOk result (λ tried. K.counted self.new.kinds.now ≡ count_after tried (K.counted self.old.kinds.now)) }
         ensures no_count { IsErr result → K.counted self.new.kinds.now ≡ K.counted self.old.kinds.now }
     {
@@ -138,13 +115,13 @@ impl<'a, K: Kinds> Try<'a, K> {
 pub fn one_try<K: Kinds>(
     alloc: Global,
     kinds: &mut K,
-    known: &[Known<K::Key, K::Value>],
+    known: &Known<K::Key, K::Value>,
     key: &K::Key,
     fuel: u32,
 ) -> Result<Tried<K::Key, K::Value>, NoMemory>
     requires computed { K.is_input key.now ≡ false }
     ensures fit { (files : FilesValue) → K.fits kinds.new files ≡ K.fits kinds.old files }
-    ensures tried { IfOk result (IsTried (K.make key.now fuel (value_in K.Key.cmp (known_values known.now)))) }
+    ensures tried { IfOk result (IsTried (K.make key.now fuel (value_in K.Key.cmp known.now))) }
     ensures count { IfOk result (λ tried. K.counted kinds.new ≡ count_after tried (K.counted kinds.old)) }
     ensures no_count { IsErr result → K.counted kinds.new ≡ K.counted kinds.old }
 {

@@ -9,7 +9,7 @@ use Rattle.sve_text.specs.Files.{FilesValue}
 use Rattle.sve_history.specs.Histories.{HistoryValue}
 use Rattle.sve_store.specs.Made.{Needs, Done, value_in, values_of, untold, IsOneOf}
 use Rattle.sve_store.specs.Values.{is_given, is_made, IsValue, OnTheWay, at_first, one_more}
-use Rattle.sve_store.specs.Tries.{known_values, IsTried, count_after}
+use Rattle.sve_store.specs.Tries.{IsTried, count_after}
 use Rattle.sve_store.proofs.Lookups.{untold-falls}
 use Rattle.sve_store.proofs.Tables.{table_of_all}
 use Rattle.sve_store.proofs.Ways.{not_given, comes_to, tells_on_the_way, no_input}
@@ -83,9 +83,9 @@ anew-tries-init g t c =
       fits = λ all. refl;
       fresh = c.requires.fresh;
       watched = no_more _;
-      way = subst (λ l. ∥ OnTheWay g.K.Key.Ord.cmp there g.K.Kinds.make key c.args.fuel (known_values l) ∥₁) (sym c.new-noted.ensures.items) ∣ at_first (never_given (D g) g.K.Keyed.is_input g.met.K.Keyed.inputs key c.requires.computed (files_of h r)) ∣₁;
+      way = subst (λ l. ∥ OnTheWay g.K.Key.Ord.cmp there g.K.Kinds.make key c.args.fuel l ∥₁) (sym c.new-noted.ensures) ∣ at_first (never_given (D g) g.K.Keyed.is_input g.met.K.Keyed.inputs key c.requires.computed (files_of h r)) ∣₁;
       each = λ j u i. absurd (subst (λ l. IsOneOf l (j, u)) c.new-reads.ensures.items i);
-      cover = λ j i. absurd (subst (λ l. IsOneOf (keys_of (known_values l)) j) c.new-noted.ensures.items i);
+      cover = λ j i. absurd (subst (λ l. IsOneOf (keys_of l) j) c.new-noted.ensures i);
       read = λ j u i. absurd (subst (λ l. IsOneOf l (j, u)) c.new-reads.ensures.items i);
       gains = λ set. ([], no_gain (D g) files (g.K.Ending.height (files_of h r)) c.args.lent.now.memos r _ _ _ c.args.fresh.now set, omega arith, λ j u i p. absurd (subst (λ l. IsOneOf l (j, u)) c.new-reads.ensures.items i));
     }
@@ -95,8 +95,8 @@ anew-returns-in-Came-clause-memo g t c =
     let h = c.args.lent.now.snapshot.history in
     let r = c.args.lent.now.snapshot.revision in
     let key = c.args.key.now in
-    let told = known_values c.tries.noted.items in
-    let made : g.K.Kinds.make key c.args.fuel (value_in g.K.Key.Ord.cmp told) ≡ Done c.in-Came.made = rw (← c.deref.ensures.value) (subst (IsTried _) c.in-Came.is c.in_ok-made.ensures.tried) in
+    let told = c.tries.noted in
+    let made : g.K.Kinds.make key c.args.fuel (value_in g.K.Key.Ord.cmp told) ≡ Done c.in-Came.made = subst (IsTried _) c.in-Came.is c.in_ok-made.ensures.tried in
     let inv = c.tries.invariant in
     let sound = ∥∥₁_map inv.way (λ way. sound_anew (D g) h r key c.args.fuel told c.in-Came.made c.tries.reads.items c.requires.newest.last (never_given (D g) g.K.Keyed.is_input g.met.K.Keyed.inputs key c.requires.computed) way made inv.each inv.cover) in
     ok_from c.memo_of.result _ _ _ c.memo_of.ensures (λ m is. (ap (λ (x : MemoValue g.row.K-Key.Denot g.row.K-Value.Denot). x.finding.key) is, ap (λ (x : MemoValue g.row.K-Key.Denot g.row.K-Value.Denot). x.verified) is, subst (λ x. ∥ IsSound (D g) h x ∥₁) (sym is) sound))
@@ -105,9 +105,9 @@ pub anew-returns-in-Came-clause-serves : goal.anew-returns-in-Came-clause-serves
 anew-returns-in-Came-clause-serves g t c =
     let files = files_of c.args.lent.now.snapshot.history c.args.lent.now.snapshot.revision in
     let key = c.args.key.now in
-    let told = known_values c.tries.noted.items in
+    let told = c.tries.noted in
     let given = values_of (g.K.Keyed.given files) in
-    let made : g.K.Kinds.make key c.args.fuel (value_in g.K.Key.Ord.cmp told) ≡ Done c.in-Came.made = rw (← c.deref.ensures.value) (subst (IsTried _) c.in-Came.is c.in_ok-made.ensures.tried) in
+    let made : g.K.Kinds.make key c.args.fuel (value_in g.K.Key.Ord.cmp told) ≡ Done c.in-Came.made = subst (IsTried _) c.in-Came.is c.in_ok-made.ensures.tried in
     let serves : g.K.Keyed.serves c.in-Came.made c.args.fuel ≡ true = ∥∥₁_elim c.tries.invariant.way (Coded-set coded_bool (g.K.Keyed.serves c.in-Came.made c.args.fuel) true) (λ way.
     serve g files key c.args.fuel c.in-Came.made (comes_to g.K.Key.Ord.cmp given g.K.Kinds.make key c.args.fuel told c.in-Came.made way [] (is_made (not_given g.K.Key.Ord.cmp given g.K.Kinds.make key c.args.fuel told way) made))) in
     ok_from c.memo_of.result _ _ _ c.memo_of.ensures (λ m is. ap (λ (x : MemoValue g.row.K-Key.Denot g.row.K-Value.Denot). g.K.Keyed.serves x.finding.value c.args.fuel) is ∙ serves)
@@ -120,10 +120,10 @@ anew-tries-smaller g t c =
     let fuel = c.args.fuel in
     let j = c.in-Wants.needed in
     let cmp = g.K.Key.Ord.cmp in
-    let told = known_values c.tries.noted.items in
-    let needs : g.K.Kinds.make key fuel (value_in cmp told) ≡ Needs j = rw (← c.deref.ensures.value) (subst (IsTried _) c.in-Wants.is c.in_ok-made.ensures.tried) in
+    let told = c.tries.noted in
+    let needs : g.K.Kinds.make key fuel (value_in cmp told) ≡ Needs j = subst (IsTried _) c.in-Wants.is c.in_ok-made.ensures.tried in
     let items = c.in_ok-note-in-Wants.ensures.1 in
-    let after = known_values c.note.new.known.items in
+    let after = c.note.new.known in
     less_by (untold (value_in cmp after) (g.K.Ending.reads files key fuel)) (untold (value_in cmp told) (g.K.Ending.reads files key fuel)) c.tries.invariant.way (λ way.
     let read = g.met.K.Ending.reading files key fuel (value_in cmp told) j c.requires.computed (tells_on_the_way cmp given g.K.Kinds.make (exact g) key fuel told way) needs in
     subst (λ l. untold (value_in cmp l) (g.K.Ending.reads files key fuel) < untold (value_in cmp told) (g.K.Ending.reads files key fuel)) (sym items) (untold-falls cmp (equal g) told j _ (g.K.Ending.reads files key fuel) read.0 read.1))
@@ -144,15 +144,15 @@ anew-tries-preserved g t c =
     let j = c.in-Wants.needed in
     let w = arc_value c.in_ok-value-in-Wants.value in
     let s = c.in_ok-value-in-Wants.stamp in
-    let told = known_values c.tries.noted.items in
-    let needs : make key fuel (value_in cmp told) ≡ Needs j = rw (← c.deref.ensures.value) (subst (IsTried _) c.in-Wants.is c.in_ok-made.ensures.tried) in
+    let told = c.tries.noted in
+    let needs : make key fuel (value_in cmp told) ≡ Needs j = subst (IsTried _) c.in-Wants.is c.in_ok-made.ensures.tried in
     let free : IsFree (D g) h j = g.met.K.Kinds.free key fuel (value_in cmp told) j needs in
     let stamped : IsStamped (D g) h r j w s = c.in_ok-value-in-Wants.ensures.value in
     let inv = c.tries.invariant in
-    let items : known_values c.note.new.known.items ≡ told ++ ((j, w) ∷ []) = c.in_ok-note-in-Wants.ensures.1 in
+    let items : c.note.new.known ≡ told ++ ((j, w) ∷ []) = c.in_ok-note-in-Wants.ensures.1 in
     let pushed : c.note.new.reads.items ≡ c.tries.reads.items ++ ((j, s) ∷ []) = c.in_ok-note-in-Wants.ensures.0 in
-    let keys : keys_of (known_values c.note.new.known.items) ≡ keys_of told ++ (j ∷ []) = ap keys_of items ∙ keys_of-push told (j, w) in
-    let P : g.row.K-Key.Denot × ℕ → Type 0 = λ q. (q.1 ≤ r) × IsOneOf (keys_of (known_values c.note.new.known.items)) q.0 × IsFree (D g) h q.0 × SameAt (D g) h q.1 r q.0 in
+    let keys : keys_of c.note.new.known ≡ keys_of told ++ (j ∷ []) = ap keys_of items ∙ keys_of-push told (j, w) in
+    let P : g.row.K-Key.Denot × ℕ → Type 0 = λ q. (q.1 ≤ r) × IsOneOf (keys_of c.note.new.known) q.0 × IsFree (D g) h q.0 × SameAt (D g) h q.1 r q.0 in
     let here : P (j, s) = (stamped.0, subst (λ l. IsOneOf l j) (sym keys) (one_last (keys_of told) j), free, same_by (D g) h g.row.K-Value.coded r j w s s stamped refl free) in
     let watched = c.in_ok-value-in-Wants.ensures.watch in
     let Q : g.row.K-Key.Denot × ℕ → Type 0 = λ q. Reads (D g) files key fuel q.0 in
@@ -192,9 +192,9 @@ pub anew-bring-requires : goal.anew-bring-requires
 anew-bring-requires g t c κs within =
     let h = c.args.lent.now.snapshot.history in
     let there = files_of h c.args.lent.now.snapshot.revision in
-    let told = known_values c.tries.noted.items in
+    let told = c.tries.noted in
     let j = c.in-Wants.needed in
-    let needs : g.K.Kinds.make c.args.key.now c.args.fuel (value_in g.K.Key.Ord.cmp told) ≡ Needs j = rw (← c.deref.ensures.value) (subst (IsTried _) c.in-Wants.is c.in_ok-made.ensures.tried) in
+    let needs : g.K.Kinds.make c.args.key.now c.args.fuel (value_in g.K.Key.Ord.cmp told) ≡ Needs j = subst (IsTried _) c.in-Wants.is c.in_ok-made.ensures.tried in
     let inv = c.tries.invariant in
     let low = need_lower g there c.args.key.now c.args.fuel told j c.requires.computed inv.way needs in
     let free : IsFree (D g) h j = g.met.K.Kinds.free c.args.key.now c.args.fuel (value_in g.K.Key.Ord.cmp told) j needs in
@@ -248,9 +248,9 @@ anew-returns-in_err-value-in-Wants-clause-gains g t c = λ set.
     let height = g.K.Ending.height there in
     let key = c.args.key.now in
     let j = c.in-Wants.needed in
-    let told = known_values c.tries.noted.items in
+    let told = c.tries.noted in
     let inv = c.tries.invariant in
-    let needs : g.K.Kinds.make key c.args.fuel (value_in g.K.Key.Ord.cmp told) ≡ Needs j = rw (← c.deref.ensures.value) (subst (IsTried _) c.in-Wants.is c.in_ok-made.ensures.tried) in
+    let needs : g.K.Kinds.make key c.args.fuel (value_in g.K.Key.Ord.cmp told) ≡ Needs j = subst (IsTried _) c.in-Wants.is c.in_ok-made.ensures.tried in
     let read = subst (λ f. Reads (D g) f key c.args.fuel j) c.requires.newest.here (∥∥₁_map inv.way (λ way. (told, way, needs))) in
     let low = need_lower g there key c.args.fuel told j c.requires.computed inv.way needs in
     let quiet = c.in_ok-made.ensures.count ∙ ap (λ o. count_after o (g.K.Keyed.counted c.tries.kinds)) c.in-Wants.is in
@@ -269,9 +269,9 @@ anew-returns-in_err-note-in-Wants-clause-gains g t c = λ set.
     let height = g.K.Ending.height there in
     let key = c.args.key.now in
     let j = c.in-Wants.needed in
-    let told = known_values c.tries.noted.items in
+    let told = c.tries.noted in
     let inv = c.tries.invariant in
-    let needs : g.K.Kinds.make key c.args.fuel (value_in g.K.Key.Ord.cmp told) ≡ Needs j = rw (← c.deref.ensures.value) (subst (IsTried _) c.in-Wants.is c.in_ok-made.ensures.tried) in
+    let needs : g.K.Kinds.make key c.args.fuel (value_in g.K.Key.Ord.cmp told) ≡ Needs j = subst (IsTried _) c.in-Wants.is c.in_ok-made.ensures.tried in
     let read = subst (λ f. Reads (D g) f key c.args.fuel j) c.requires.newest.here (∥∥₁_map inv.way (λ way. (told, way, needs))) in
     let low = need_lower g there key c.args.fuel told j c.requires.computed inv.way needs in
     let quiet = c.in_ok-made.ensures.count ∙ ap (λ o. count_after o (g.K.Keyed.counted c.tries.kinds)) c.in-Wants.is in

@@ -3,7 +3,6 @@ use Rattle.std.proofs.Common.{◌≡◌, ℕ, ◌+◌, ◌*◌, ◌≤◌, List,
 use Rattle.sve_text.specs.Files.{FilesValue}
 use Rattle.sve_store.specs.Made.{value_in, values_of, untold, IsOneOf}
 use Rattle.sve_store.specs.Values.{OnTheWay}
-use Rattle.sve_store.specs.Tries.{known_values}
 use Rattle.sve_ask.specs.Sound.{Defined, SameAt, AllSound, IsFree, files_of}
 use Rattle.sve_ask.specs.Current.{found_in, overlaid, IsCurrent, IsStill}
 use Rattle.sve_ask.specs.Watched.{GaveMore}
@@ -36,9 +35,9 @@ invariant-anew-tries g l =
       fits : (all : FilesValue) → g.K.Keyed.fits l.kinds all ≡ g.K.Keyed.fits l.initial.kinds all;
       fresh : AllSound D h l.fresh;
       watched : GaveMore (g.W.Watch.gave l.initial.watch) (g.W.Watch.gave l.watch);
-      way : ∥ OnTheWay g.K.Key.Ord.cmp (values_of (g.K.Keyed.given (files_of h r))) g.K.Kinds.make l.key l.fuel (known_values l.noted.items) ∥₁;
-      each : (j : g.row.K-Key.Denot) (t : ℕ) → IsOneOf l.reads.items (j, t) → (t ≤ r) × IsOneOf (keys_of (known_values l.noted.items)) j × IsFree D h j × SameAt D h t r j;
-      cover : (j : g.row.K-Key.Denot) → IsOneOf (keys_of (known_values l.noted.items)) j → (t : ℕ) × IsOneOf l.reads.items (j, t);
+      way : ∥ OnTheWay g.K.Key.Ord.cmp (values_of (g.K.Keyed.given (files_of h r))) g.K.Kinds.make l.key l.fuel l.noted ∥₁;
+      each : (j : g.row.K-Key.Denot) (t : ℕ) → IsOneOf l.reads.items (j, t) → (t ≤ r) × IsOneOf (keys_of l.noted) j × IsFree D h j × SameAt D h t r j;
+      cover : (j : g.row.K-Key.Denot) → IsOneOf (keys_of l.noted) j → (t : ℕ) × IsOneOf l.reads.items (j, t);
       read : (j : g.row.K-Key.Denot) (t : ℕ) → IsOneOf l.reads.items (j, t) → Reads D files l.key l.fuel j;
       gains : IsSettled D files r l.initial.fresh → (made : List g.row.K-Key.Denot)
           × Gains D files (g.K.Ending.height (files_of h r)) l.lent.memos r (g.K.Ending.height (files_of h r) l.key) 0 (InReachBelow D files (overlaid g.K.Key.Ord.cmp l.initial.fresh l.lent.memos) l.key l.fuel) l.initial.fresh l.fresh made
@@ -46,7 +45,7 @@ invariant-anew-tries g l =
     }
 
 abbrev pub decreases-anew-tries : goal.decreases-anew-tries
-decreases-anew-tries g l = untold (value_in g.K.Key.Ord.cmp (known_values l.noted.items)) (g.K.Ending.reads (files_of l.lent.snapshot.history l.lent.snapshot.revision) l.key l.fuel)
+decreases-anew-tries g l = untold (value_in g.K.Key.Ord.cmp l.noted) (g.K.Ending.reads (files_of l.lent.snapshot.history l.lent.snapshot.revision) l.key l.fuel)
 
 abbrev pub invariant-agrees-looks : goal.invariant-agrees-looks
 invariant-agrees-looks g l =
