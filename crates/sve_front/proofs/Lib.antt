@@ -1,6 +1,6 @@
 mod Counts
 mod Names
-mod Parts
+pub mod Parts
 mod Additions
 mod Held
 mod Stops
