@@ -75,7 +75,6 @@ pub struct AtomType {
 }
 
 /// An integer type of as many bits as its packed dimensions say, and its sign (6.11).
-#[derive(Drop)]
 pub struct VectorType {
     /// The type's keyword.
     pub keyword: Mark<VectorKeyword>,
@@ -85,8 +84,17 @@ pub struct VectorType {
     pub dimensions: Vec<Dimension>,
 }
 
+impl Drop for VectorType {
+    fn drop(self) {
+        let VectorType {
+            keyword: _,
+            sign: _,
+            dimensions: _,
+        } = self;
+    }
+}
+
 /// A type by its name, with packed dimensions (6.18): `t`, `p::t [7:0]`.
-#[derive(Drop)]
 pub struct NamedType {
     /// The name.
     pub name: ScopedName,
@@ -94,8 +102,16 @@ pub struct NamedType {
     pub dimensions: Vec<Dimension>,
 }
 
+impl Drop for NamedType {
+    fn drop(self) {
+        let NamedType {
+            name: _,
+            dimensions: _,
+        } = self;
+    }
+}
+
 /// An enumeration: `enum logic [1:0] {A, B = 2}` (6.19).
-#[derive(Drop)]
 pub struct Enumeration {
     /// `enum`.
     pub keyword: u32,
@@ -111,8 +127,20 @@ pub struct Enumeration {
     pub dimensions: Vec<Dimension>,
 }
 
+impl Drop for Enumeration {
+    fn drop(self) {
+        let Enumeration {
+            keyword: _,
+            base: _,
+            opening: _,
+            names: _,
+            closing: _,
+            dimensions: _,
+        } = self;
+    }
+}
+
 /// The base type of an enumeration (6.19).
-#[derive(Drop)]
 pub enum EnumBase {
     /// An integer type with a width of its own.
     Atom {
@@ -129,6 +157,16 @@ pub enum EnumBase {
         /// The type.
         named: NamedType,
     },
+}
+
+impl Drop for EnumBase {
+    fn drop(self) {
+        match self {
+            EnumBase::Atom { atom: _ } => {}
+            EnumBase::Vector { vector: _ } => {}
+            EnumBase::Named { named: _ } => {}
+        }
+    }
 }
 
 /// A packed structure: `struct packed {logic a; int b;}` (7.2.1).
@@ -166,7 +204,6 @@ impl Drop for Structure {
 }
 
 /// A name of an enumeration (6.19).
-#[derive(Drop)]
 pub struct EnumName {
     /// The name.
     pub name: u32,
@@ -174,13 +211,27 @@ pub struct EnumName {
     pub value: Option<Initializer>,
 }
 
+impl Drop for EnumName {
+    fn drop(self) {
+        let EnumName { name: _, value: _ } = self;
+    }
+}
+
 /// `=` and a value.
-#[derive(Drop)]
 pub struct Initializer {
     /// `=`.
     pub equals: u32,
     /// The value.
     pub value: Box<Expr>,
+}
+
+impl Drop for Initializer {
+    fn drop(self) {
+        let Initializer {
+            equals: _,
+            value: _,
+        } = self;
+    }
 }
 
 /// Members of one type in a packed structure (7.2.1): `logic [7:0] a, b;`.
@@ -206,12 +257,20 @@ impl Drop for Members {
 }
 
 /// A name that is declared, with its unpacked dimensions (7.4.2).
-#[derive(Drop)]
 pub struct Declarator {
     /// The name.
     pub name: u32,
     /// The unpacked dimensions, from left to right.
     pub dimensions: Vec<Dimension>,
+}
+
+impl Drop for Declarator {
+    fn drop(self) {
+        let Declarator {
+            name: _,
+            dimensions: _,
+        } = self;
+    }
 }
 
 /// A type by itself (A.2.2.1).
@@ -253,7 +312,6 @@ impl TypeRef {
 }
 
 /// The type of a declared name, written or left out in part or in whole (A.2.2.1, data_type_or_implicit).
-#[derive(Drop)]
 pub enum DeclaredType {
     /// A type: `int i`, `t [7:0] n`.
     Explicit {
@@ -267,6 +325,18 @@ pub enum DeclaredType {
         /// The packed dimensions, from left to right.
         dimensions: Vec<Dimension>,
     },
+}
+
+impl Drop for DeclaredType {
+    fn drop(self) {
+        match self {
+            DeclaredType::Explicit { data_type: _ } => {}
+            DeclaredType::Implicit {
+                sign: _,
+                dimensions: _,
+            } => {}
+        }
+    }
 }
 
 /// A declared name with its type, written or left out: `int i [4]`, `n`.

@@ -4,7 +4,6 @@ use crate::word::{Mark, Net, PackageScope, ParameterKeyword};
 use sve_bytes::Dir;
 
 /// A declaration of parameters, of a type, of imports or of a modport.
-#[derive(Drop)]
 pub enum Decl {
     /// Parameters (IEEE 1800-2017, 6.20).
     Parameters {
@@ -28,8 +27,18 @@ pub enum Decl {
     },
 }
 
+impl Drop for Decl {
+    fn drop(self) {
+        match self {
+            Decl::Parameters { declaration: _ } => {}
+            Decl::Typedef { declaration: _ } => {}
+            Decl::Import { declaration: _ } => {}
+            Decl::Modport { declaration: _ } => {}
+        }
+    }
+}
+
 /// A declaration of parameters: `localparam int A = 1, B = 2;` (6.20).
-#[derive(Drop)]
 pub struct Parameters {
     /// `parameter` or `localparam`.
     pub keyword: Mark<ParameterKeyword>,
@@ -41,8 +50,18 @@ pub struct Parameters {
     pub semicolon: u32,
 }
 
+impl Drop for Parameters {
+    fn drop(self) {
+        let Parameters {
+            keyword: _,
+            data_type: _,
+            assignments: _,
+            semicolon: _,
+        } = self;
+    }
+}
+
 /// A parameter's name and its value (A.2.4).
-#[derive(Drop)]
 pub struct ParameterAssignment {
     /// The name.
     pub declarator: Declarator,
@@ -50,8 +69,16 @@ pub struct ParameterAssignment {
     pub value: Initializer,
 }
 
+impl Drop for ParameterAssignment {
+    fn drop(self) {
+        let ParameterAssignment {
+            declarator: _,
+            value: _,
+        } = self;
+    }
+}
+
 /// A declaration of a type: `typedef logic [7:0] byte_t;` (6.18).
-#[derive(Drop)]
 pub struct Typedef {
     /// `typedef`.
     pub keyword: u32,
@@ -63,8 +90,18 @@ pub struct Typedef {
     pub semicolon: u32,
 }
 
+impl Drop for Typedef {
+    fn drop(self) {
+        let Typedef {
+            keyword: _,
+            data_type: _,
+            declarator: _,
+            semicolon: _,
+        } = self;
+    }
+}
+
 /// Imports of a package's names: `import p::a, q::*;` (26.3).
-#[derive(Drop)]
 pub struct Import {
     /// `import`.
     pub keyword: u32,
@@ -72,6 +109,16 @@ pub struct Import {
     pub items: Row<ImportItem>,
     /// `;`.
     pub semicolon: u32,
+}
+
+impl Drop for Import {
+    fn drop(self) {
+        let Import {
+            keyword: _,
+            items: _,
+            semicolon: _,
+        } = self;
+    }
 }
 
 /// A name of a package, or all of its names (26.3).
@@ -94,7 +141,6 @@ pub enum ImportItem {
 }
 
 /// A modport with its members: `m(input a, b, output c)` (25.5).
-#[derive(Drop)]
 pub struct Modport {
     /// Its name.
     pub name: u32,
@@ -104,6 +150,17 @@ pub struct Modport {
     pub members: Row<ModportMember>,
     /// `)`.
     pub closing: u32,
+}
+
+impl Drop for Modport {
+    fn drop(self) {
+        let Modport {
+            name: _,
+            opening: _,
+            members: _,
+            closing: _,
+        } = self;
+    }
 }
 
 /// A member of a modport (25.5).
@@ -116,7 +173,6 @@ pub struct ModportMember {
 }
 
 /// A declared name and its value: `a [3:0] = 1` (A.2.3).
-#[derive(Drop)]
 pub struct InitializedDeclarator {
     /// The name.
     pub declarator: Declarator,
@@ -124,8 +180,16 @@ pub struct InitializedDeclarator {
     pub value: Option<Initializer>,
 }
 
+impl Drop for InitializedDeclarator {
+    fn drop(self) {
+        let InitializedDeclarator {
+            declarator: _,
+            value: _,
+        } = self;
+    }
+}
+
 /// A declaration of nets: `wire [3:0] a, b = 1;` (6.7).
-#[derive(Drop)]
 pub struct NetDeclaration {
     /// The net type.
     pub net: Mark<Net>,
@@ -137,8 +201,18 @@ pub struct NetDeclaration {
     pub semicolon: u32,
 }
 
+impl Drop for NetDeclaration {
+    fn drop(self) {
+        let NetDeclaration {
+            net: _,
+            data_type: _,
+            declarators: _,
+            semicolon: _,
+        } = self;
+    }
+}
+
 /// A declaration of variables with `var`: `var logic a, b;` (6.8).
-#[derive(Drop)]
 pub struct VariableDeclaration {
     /// `var`.
     pub keyword: u32,
@@ -150,8 +224,18 @@ pub struct VariableDeclaration {
     pub semicolon: u32,
 }
 
+impl Drop for VariableDeclaration {
+    fn drop(self) {
+        let VariableDeclaration {
+            keyword: _,
+            data_type: _,
+            declarators: _,
+            semicolon: _,
+        } = self;
+    }
+}
+
 /// A declaration of variables without `var`: `int a = 1, b;`, `p::t [3:0] a, b;` (6.8).
-#[derive(Drop)]
 pub struct DataDeclaration {
     /// Their type.
     pub data_type: TypeRef,
@@ -159,4 +243,14 @@ pub struct DataDeclaration {
     pub declarators: Row<InitializedDeclarator>,
     /// `;`.
     pub semicolon: u32,
+}
+
+impl Drop for DataDeclaration {
+    fn drop(self) {
+        let DataDeclaration {
+            data_type: _,
+            declarators: _,
+            semicolon: _,
+        } = self;
+    }
 }

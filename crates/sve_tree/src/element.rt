@@ -10,7 +10,6 @@ use crate::word::{Label, Lifetime, Mark, ModuleKeyword};
 
 /// The tree of a chunk: items of the compilation unit's scope, and at most one module, interface or package behind them
 /// (IEEE 1800-2017, 3.12.1 and A.1.2); and the words of the chunk, whose numbers the tree holds.
-#[derive(Drop)]
 pub struct Element {
     /// The items of the compilation unit's scope.
     pub items: Vec<UnitItem>,
@@ -18,6 +17,16 @@ pub struct Element {
     pub design: Option<Design>,
     /// The chunk's tokens without their places, in order.
     pub words: Vec<Word>,
+}
+
+impl Drop for Element {
+    fn drop(self) {
+        let Element {
+            items: _,
+            design: _,
+            words: _,
+        } = self;
+    }
 }
 
 impl Element {
@@ -73,7 +82,6 @@ pub enum UnitItem {
 }
 
 /// A module, an interface or a package (A.1.2).
-#[derive(Drop)]
 pub enum Design {
     /// A module (clause 23).
     Module {
@@ -94,6 +102,22 @@ pub enum Design {
         /// The package.
         unit: Box<Package>,
     },
+}
+
+impl Drop for Design {
+    fn drop(self) {
+        match self {
+            Design::Module {
+                keyword: _,
+                definition: _,
+            } => {}
+            Design::Interface {
+                keyword: _,
+                definition: _,
+            } => {}
+            Design::Package { unit: _ } => {}
+        }
+    }
 }
 
 impl Design {
@@ -121,7 +145,6 @@ impl Design {
 }
 
 /// A module or an interface behind its keyword (23.2 and 25.3).
-#[derive(Drop)]
 pub struct Definition {
     /// Its header.
     pub header: Header,
@@ -133,8 +156,18 @@ pub struct Definition {
     pub label: Option<Label>,
 }
 
+impl Drop for Definition {
+    fn drop(self) {
+        let Definition {
+            header: _,
+            items: _,
+            end: _,
+            label: _,
+        } = self;
+    }
+}
+
 /// A package (26.2).
-#[derive(Drop)]
 pub struct Package {
     /// `package`.
     pub keyword: u32,
@@ -150,4 +183,18 @@ pub struct Package {
     pub end: u32,
     /// The label after `endpackage`, where one is written.
     pub label: Option<Label>,
+}
+
+impl Drop for Package {
+    fn drop(self) {
+        let Package {
+            keyword: _,
+            lifetime: _,
+            name: _,
+            semicolon: _,
+            items: _,
+            end: _,
+            label: _,
+        } = self;
+    }
 }

@@ -7,7 +7,6 @@ use crate::word::{Lifetime, Mark, Net, ParameterKeyword};
 use sve_bytes::Dir;
 
 /// The header of a module or an interface, from behind its keyword to the semicolon (IEEE 1800-2017, 23.2).
-#[derive(Drop)]
 pub struct Header {
     /// The lifetime of the variables in it, where one is written.
     pub lifetime: Option<Mark<Lifetime>>,
@@ -23,8 +22,20 @@ pub struct Header {
     pub semicolon: u32,
 }
 
+impl Drop for Header {
+    fn drop(self) {
+        let Header {
+            lifetime: _,
+            name: _,
+            imports: _,
+            parameters: _,
+            ports: _,
+            semicolon: _,
+        } = self;
+    }
+}
+
 /// The parameters of a header in their parentheses: `#(parameter N = 8)` (6.20.1 and 23.2.1).
-#[derive(Drop)]
 pub struct ParameterPorts {
     /// `#`.
     pub hash: u32,
@@ -36,8 +47,18 @@ pub struct ParameterPorts {
     pub closing: u32,
 }
 
+impl Drop for ParameterPorts {
+    fn drop(self) {
+        let ParameterPorts {
+            hash: _,
+            opening: _,
+            parameters: _,
+            closing: _,
+        } = self;
+    }
+}
+
 /// A parameter of a header (6.20.1).
-#[derive(Drop)]
 pub struct ParameterPort {
     /// `parameter` or `localparam`, where one is written.
     pub keyword: Option<Mark<ParameterKeyword>>,
@@ -45,6 +66,16 @@ pub struct ParameterPort {
     pub parameter: TypedName,
     /// The default value, where there is one.
     pub value: Option<Initializer>,
+}
+
+impl Drop for ParameterPort {
+    fn drop(self) {
+        let ParameterPort {
+            keyword: _,
+            parameter: _,
+            value: _,
+        } = self;
+    }
 }
 
 impl ParameterPort {
@@ -57,7 +88,6 @@ impl ParameterPort {
 }
 
 /// The ports of a header in their parentheses (23.2.2).
-#[derive(Drop)]
 pub struct Ports {
     /// `(`.
     pub opening: u32,
@@ -67,8 +97,17 @@ pub struct Ports {
     pub closing: u32,
 }
 
+impl Drop for Ports {
+    fn drop(self) {
+        let Ports {
+            opening: _,
+            ports: _,
+            closing: _,
+        } = self;
+    }
+}
+
 /// A port of a header (23.2.2.2).
-#[derive(Drop)]
 pub struct Port {
     /// The direction, where one is written.
     pub direction: Option<Mark<Dir>>,
@@ -78,6 +117,17 @@ pub struct Port {
     pub port_type: PortType,
     /// The name.
     pub declarator: Declarator,
+}
+
+impl Drop for Port {
+    fn drop(self) {
+        let Port {
+            direction: _,
+            kind: _,
+            port_type: _,
+            declarator: _,
+        } = self;
+    }
 }
 
 impl Port {
@@ -105,7 +155,6 @@ pub enum PortKind {
 }
 
 /// The type of a port, written or left out, or its interface (23.2.2.2 and 25.3).
-#[derive(Drop)]
 pub enum PortType {
     /// A type, or an interface by its name alone, which looks like one.
     Data {
@@ -121,4 +170,17 @@ pub enum PortType {
         /// The modport.
         modport: u32,
     },
+}
+
+impl Drop for PortType {
+    fn drop(self) {
+        match self {
+            PortType::Data { data_type: _ } => {}
+            PortType::Interface {
+                interface: _,
+                dot: _,
+                modport: _,
+            } => {}
+        }
+    }
 }

@@ -168,7 +168,6 @@ impl Item {
 }
 
 /// A declaration of genvars: `genvar i, j;` (27.4).
-#[derive(Drop)]
 pub struct GenvarDeclaration {
     /// `genvar`.
     pub keyword: u32,
@@ -178,8 +177,17 @@ pub struct GenvarDeclaration {
     pub semicolon: u32,
 }
 
+impl Drop for GenvarDeclaration {
+    fn drop(self) {
+        let GenvarDeclaration {
+            keyword: _,
+            names: _,
+            semicolon: _,
+        } = self;
+    }
+}
+
 /// Continuous assignments: `assign a = b, c = d;` (10.3.2).
-#[derive(Drop)]
 pub struct ContinuousAssign {
     /// `assign`.
     pub keyword: u32,
@@ -189,8 +197,17 @@ pub struct ContinuousAssign {
     pub semicolon: u32,
 }
 
+impl Drop for ContinuousAssign {
+    fn drop(self) {
+        let ContinuousAssign {
+            keyword: _,
+            assignments: _,
+            semicolon: _,
+        } = self;
+    }
+}
+
 /// An assignment to a net or a variable (10.3.2).
-#[derive(Drop)]
 pub struct NetAssignment {
     /// What is assigned to.
     pub left: LeftSide,
@@ -200,8 +217,17 @@ pub struct NetAssignment {
     pub value: Box<Expr>,
 }
 
+impl Drop for NetAssignment {
+    fn drop(self) {
+        let NetAssignment {
+            left: _,
+            equals: _,
+            value: _,
+        } = self;
+    }
+}
+
 /// A procedure that begins with an event control: `always_ff @(posedge clk) q <= d;` (9.2.2).
-#[derive(Drop)]
 pub struct ClockedProcedure {
     /// `always` or `always_ff`.
     pub keyword: Mark<ClockedKeyword>,
@@ -213,8 +239,18 @@ pub struct ClockedProcedure {
     pub statement: Box<Stmt>,
 }
 
+impl Drop for ClockedProcedure {
+    fn drop(self) {
+        let ClockedProcedure {
+            keyword: _,
+            at: _,
+            control: _,
+            statement: _,
+        } = self;
+    }
+}
+
 /// A procedure without an event control: `always_comb a = b;` (9.2).
-#[derive(Drop)]
 pub struct PlainProcedure {
     /// `always_comb`, `always_latch` or `initial`.
     pub keyword: Mark<PlainKeyword>,
@@ -222,8 +258,16 @@ pub struct PlainProcedure {
     pub statement: Box<Stmt>,
 }
 
+impl Drop for PlainProcedure {
+    fn drop(self) {
+        let PlainProcedure {
+            keyword: _,
+            statement: _,
+        } = self;
+    }
+}
+
 /// What a procedure waits for, behind its `@` (9.4.2).
-#[derive(Drop)]
 pub enum EventControl {
     /// `@*`: all that the statement reads (9.4.2.2).
     Any {
@@ -257,13 +301,40 @@ pub enum EventControl {
     },
 }
 
+impl Drop for EventControl {
+    fn drop(self) {
+        match self {
+            EventControl::Any { star: _ } => {}
+            EventControl::AnyParenthesized {
+                opening: _,
+                star: _,
+                closing: _,
+            } => {}
+            EventControl::Events {
+                opening: _,
+                events: _,
+                closing: _,
+            } => {}
+            EventControl::Name {
+                name: _,
+                selects: _,
+            } => {}
+        }
+    }
+}
+
 /// An event: a change of a value, or one of its edges (9.4.2).
-#[derive(Drop)]
 pub struct Event {
     /// The edge, where one is written.
     pub edge: Option<Mark<Edge>>,
     /// The value.
     pub value: Box<Expr>,
+}
+
+impl Drop for Event {
+    fn drop(self) {
+        let Event { edge: _, value: _ } = self;
+    }
 }
 
 /// Items from `generate` to `endgenerate` (27.3).
@@ -391,7 +462,6 @@ impl Drop for LoopGenerate {
 }
 
 /// The step of a generate loop (27.4).
-#[derive(Drop)]
 pub enum GenvarStep {
     /// One added or taken off, with the operator in front: `++i`.
     Before {
@@ -407,6 +477,18 @@ pub enum GenvarStep {
         /// How it is changed.
         change: Change,
     },
+}
+
+impl Drop for GenvarStep {
+    fn drop(self) {
+        match self {
+            GenvarStep::Before {
+                operator: _,
+                name: _,
+            } => {}
+            GenvarStep::Change { name: _, change: _ } => {}
+        }
+    }
 }
 
 /// A generate `if` (27.5).
@@ -520,7 +602,6 @@ impl Drop for CaseGenerateItem {
 }
 
 /// Modports: `modport m(input a), n(output a);` (25.5).
-#[derive(Drop)]
 pub struct ModportDeclaration {
     /// `modport`.
     pub keyword: u32,
@@ -530,8 +611,17 @@ pub struct ModportDeclaration {
     pub semicolon: u32,
 }
 
+impl Drop for ModportDeclaration {
+    fn drop(self) {
+        let ModportDeclaration {
+            keyword: _,
+            modports: _,
+            semicolon: _,
+        } = self;
+    }
+}
+
 /// Instances of one module or interface: `m #(8) u(a), v(b);` (23.3.2).
-#[derive(Drop)]
 pub struct Instantiation {
     /// The name of the module or of the interface.
     pub definition: u32,
@@ -543,8 +633,18 @@ pub struct Instantiation {
     pub semicolon: u32,
 }
 
+impl Drop for Instantiation {
+    fn drop(self) {
+        let Instantiation {
+            definition: _,
+            overrides: _,
+            instances: _,
+            semicolon: _,
+        } = self;
+    }
+}
+
 /// Overrides of parameters: `#(8)` (23.10.2).
-#[derive(Drop)]
 pub struct Overrides {
     /// `#`.
     pub hash: u32,
@@ -552,11 +652,28 @@ pub struct Overrides {
     pub arguments: ArgumentList,
 }
 
+impl Drop for Overrides {
+    fn drop(self) {
+        let Overrides {
+            hash: _,
+            arguments: _,
+        } = self;
+    }
+}
+
 /// The name of an instance and its connections (23.3.2).
-#[derive(Drop)]
 pub struct Instance {
     /// The name.
     pub name: u32,
     /// The connections.
     pub connections: ArgumentList,
+}
+
+impl Drop for Instance {
+    fn drop(self) {
+        let Instance {
+            name: _,
+            connections: _,
+        } = self;
+    }
 }

@@ -80,7 +80,6 @@ impl Drop for LeftConcatenation {
 }
 
 /// How a name is changed: by a value or by one (10.4 and 11.4.2).
-#[derive(Drop)]
 pub enum Change {
     /// A value is assigned.
     Assign {
@@ -96,8 +95,19 @@ pub enum Change {
     },
 }
 
+impl Drop for Change {
+    fn drop(self) {
+        match self {
+            Change::Assign {
+                operator: _,
+                value: _,
+            } => {}
+            Change::Step { operator: _ } => {}
+        }
+    }
+}
+
 /// What a statement does with the name at its front.
-#[derive(Drop)]
 pub enum StatementTail {
     /// A value is assigned to it (10.4 and 11.4.1).
     Assign {
@@ -116,6 +126,19 @@ pub enum StatementTail {
         /// The arguments.
         arguments: ArgumentList,
     },
+}
+
+impl Drop for StatementTail {
+    fn drop(self) {
+        match self {
+            StatementTail::Assign {
+                operator: _,
+                value: _,
+            } => {}
+            StatementTail::Step { operator: _ } => {}
+            StatementTail::Call { arguments: _ } => {}
+        }
+    }
 }
 
 /// A statement (clause 12, A.6).
@@ -343,7 +366,6 @@ impl Drop for BlockItem {
 
 /// A declaration of a block that begins with a type's name: `t [3:0] a = 1, b;` (6.8). Of the selects behind the name, each has
 /// to be a dimension.
-#[derive(Drop)]
 pub struct NamedDeclaration {
     /// The type's name.
     pub name: ScopedName,
@@ -353,6 +375,17 @@ pub struct NamedDeclaration {
     pub declarators: Row<InitializedDeclarator>,
     /// `;`.
     pub semicolon: u32,
+}
+
+impl Drop for NamedDeclaration {
+    fn drop(self) {
+        let NamedDeclaration {
+            name: _,
+            selects: _,
+            declarators: _,
+            semicolon: _,
+        } = self;
+    }
 }
 
 /// `if` with its statement, and `else` (12.4).
@@ -506,7 +539,6 @@ impl Drop for ForStatement {
 }
 
 /// What a for loop does at first (12.7.1).
-#[derive(Drop)]
 pub enum ForInitialization {
     /// It declares variables, the first with a type that begins with a keyword: `int i = 0, j = 1`.
     Declared {
@@ -537,8 +569,27 @@ pub enum ForInitialization {
     },
 }
 
+impl Drop for ForInitialization {
+    fn drop(self) {
+        match self {
+            ForInitialization::Declared { variables: _ } => {}
+            ForInitialization::Assigned {
+                name: _,
+                selects: _,
+                operator: _,
+                value: _,
+            } => {}
+            ForInitialization::NamedType {
+                name: _,
+                selects: _,
+                declarator: _,
+                value: _,
+            } => {}
+        }
+    }
+}
+
 /// A variable that a for loop declares (12.7.1).
-#[derive(Drop)]
 pub struct ForVariable {
     /// The type; where none is written, that of the variable before.
     pub data_type: Option<DataType>,
@@ -548,8 +599,17 @@ pub struct ForVariable {
     pub value: Initializer,
 }
 
+impl Drop for ForVariable {
+    fn drop(self) {
+        let ForVariable {
+            data_type: _,
+            declarator: _,
+            value: _,
+        } = self;
+    }
+}
+
 /// A step of a for loop (12.7.1).
-#[derive(Drop)]
 pub enum ForStep {
     /// One added or taken off, with the operator in front: `++i`.
     Before {
@@ -569,6 +629,23 @@ pub enum ForStep {
         /// How it is changed.
         change: Change,
     },
+}
+
+impl Drop for ForStep {
+    fn drop(self) {
+        match self {
+            ForStep::Before {
+                operator: _,
+                name: _,
+                selects: _,
+            } => {}
+            ForStep::Change {
+                name: _,
+                selects: _,
+                change: _,
+            } => {}
+        }
+    }
 }
 
 /// A loop over the elements of an array: `foreach (a[i, j])` (12.7.3).
@@ -659,7 +736,6 @@ impl Drop for DoStatement {
 }
 
 /// `return` (12.8).
-#[derive(Drop)]
 pub struct ReturnStatement {
     /// `return`.
     pub keyword: u32,
@@ -669,8 +745,17 @@ pub struct ReturnStatement {
     pub semicolon: u32,
 }
 
+impl Drop for ReturnStatement {
+    fn drop(self) {
+        let ReturnStatement {
+            keyword: _,
+            value: _,
+            semicolon: _,
+        } = self;
+    }
+}
+
 /// A system task or function as a statement or an item: `$display(a);` (clauses 20 and 21).
-#[derive(Drop)]
 pub struct SystemTask {
     /// Its name.
     pub name: u32,
@@ -680,8 +765,17 @@ pub struct SystemTask {
     pub semicolon: u32,
 }
 
+impl Drop for SystemTask {
+    fn drop(self) {
+        let SystemTask {
+            name: _,
+            arguments: _,
+            semicolon: _,
+        } = self;
+    }
+}
+
 /// A call whose result is dropped: `void'(f(1));` (13.4.1).
-#[derive(Drop)]
 pub struct VoidCall {
     /// `void`.
     pub keyword: u32,
@@ -691,8 +785,17 @@ pub struct VoidCall {
     pub semicolon: u32,
 }
 
+impl Drop for VoidCall {
+    fn drop(self) {
+        let VoidCall {
+            keyword: _,
+            cast: _,
+            semicolon: _,
+        } = self;
+    }
+}
+
 /// One added or taken off, with the operator in front: `++i;` (11.4.2).
-#[derive(Drop)]
 pub struct StepStatement {
     /// The operator.
     pub operator: Mark<StepOperator>,
@@ -704,8 +807,18 @@ pub struct StepStatement {
     pub semicolon: u32,
 }
 
+impl Drop for StepStatement {
+    fn drop(self) {
+        let StepStatement {
+            operator: _,
+            name: _,
+            selects: _,
+            semicolon: _,
+        } = self;
+    }
+}
+
 /// An assignment to several left sides: `{a, b} = c;` (10.4).
-#[derive(Drop)]
 pub struct ConcatenationAssignment {
     /// The left sides.
     pub left: LeftConcatenation,
@@ -717,8 +830,18 @@ pub struct ConcatenationAssignment {
     pub semicolon: u32,
 }
 
+impl Drop for ConcatenationAssignment {
+    fn drop(self) {
+        let ConcatenationAssignment {
+            left: _,
+            operator: _,
+            value: _,
+            semicolon: _,
+        } = self;
+    }
+}
+
 /// A statement that begins with a name: an assignment, a step or a call.
-#[derive(Drop)]
 pub struct NameStatement {
     /// The name.
     pub name: ScopedName,
@@ -730,8 +853,18 @@ pub struct NameStatement {
     pub semicolon: u32,
 }
 
+impl Drop for NameStatement {
+    fn drop(self) {
+        let NameStatement {
+            name: _,
+            selects: _,
+            tail: _,
+            semicolon: _,
+        } = self;
+    }
+}
+
 /// A function (13.4).
-#[derive(Drop)]
 pub struct Func {
     /// `function`.
     pub keyword: u32,
@@ -751,6 +884,21 @@ pub struct Func {
     pub label: Option<Label>,
 }
 
+impl Drop for Func {
+    fn drop(self) {
+        let Func {
+            keyword: _,
+            lifetime: _,
+            result_type: _,
+            formals: _,
+            semicolon: _,
+            items: _,
+            end: _,
+            label: _,
+        } = self;
+    }
+}
+
 impl Func {
     /// The number of the function's name.
     pub fn name(&self) -> u32
@@ -764,7 +912,6 @@ impl Func {
 }
 
 /// The type of a function's result, and the function's name (13.4).
-#[derive(Drop)]
 pub enum FunctionResult {
     /// A function without a result (13.4.1).
     Void {
@@ -780,8 +927,19 @@ pub enum FunctionResult {
     },
 }
 
+impl Drop for FunctionResult {
+    fn drop(self) {
+        match self {
+            FunctionResult::Void {
+                keyword: _,
+                name: _,
+            } => {}
+            FunctionResult::Typed { result: _ } => {}
+        }
+    }
+}
+
 /// The formal arguments of a function in their parentheses (13.5).
-#[derive(Drop)]
 pub struct Formals {
     /// `(`.
     pub opening: u32,
@@ -791,8 +949,17 @@ pub struct Formals {
     pub closing: u32,
 }
 
+impl Drop for Formals {
+    fn drop(self) {
+        let Formals {
+            opening: _,
+            formals: _,
+            closing: _,
+        } = self;
+    }
+}
+
 /// A formal argument (13.5).
-#[derive(Drop)]
 pub struct Formal {
     /// The direction, where one is written.
     pub direction: Option<FormalDirection>,
@@ -800,6 +967,16 @@ pub struct Formal {
     pub variable: Option<u32>,
     /// The name with its type.
     pub parameter: TypedName,
+}
+
+impl Drop for Formal {
+    fn drop(self) {
+        let Formal {
+            direction: _,
+            variable: _,
+            parameter: _,
+        } = self;
+    }
 }
 
 impl Formal {

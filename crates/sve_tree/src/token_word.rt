@@ -7,7 +7,6 @@ use sve_bytes::{BadName, List, Name, NoMemory};
 use sve_token::{Kind, Token};
 
 /// What a token says, apart from its place: two chunks whose words are the same have the same tree and the same meaning.
-#[derive(Drop)]
 pub struct Word {
     /// What the token is.
     pub kind: Kind,
@@ -17,6 +16,16 @@ pub struct Word {
     pub spelling: Option<Name>,
     /// All bytes of a literal where they are more than 1,024, else none.
     pub text: List<u8>,
+}
+
+impl Drop for Word {
+    fn drop(self) {
+        let Word {
+            kind: _,
+            spelling: _,
+            text: _,
+        } = self;
+    }
 }
 
 /// Whether tokens of this kind differ in their bytes.
