@@ -13,7 +13,7 @@ use Rattle.sve_scope.specs.declared.found.Through.TheVariants as is_through
 use Rattle.sve_scope.specs.Spots.{spot, stands_before}
 use Rattle.sve_scope.specs.Declarations.{is_seen}
 use Rattle.sve_scope.specs.Imports.{WildcardImport}
-use Rattle.sve_scope.specs.Scopes.{declaration_of, import_of, itself}
+use Rattle.sve_scope.specs.Scopes.{declaration_in, import_of, itself}
 
 pub data Meaning : Type 0 where
   -- a declaration
@@ -35,7 +35,7 @@ meaning_of is_found.None = nothing
 module _ (place : Spot) (n : List ℕ) where
   -- the declaration of the name, where the use sees it
   abbrev pub seen_declaration : Scope → Option Declared
-  seen_declaration s = option_filter (λ d. is_seen d place) (declaration_of n s.declared)
+  seen_declaration s = option_filter (λ d. is_seen d place) (declaration_in s n)
 
   -- the import of the name, where it stands before the use
   abbrev pub seen_import : Scope → Option Explicit

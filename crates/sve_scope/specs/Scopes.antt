@@ -29,7 +29,19 @@ import_of = item_of import_name
 
 -- a scope with nothing in it
 abbrev pub empty_scope : List ℕ → ℕ → Scope
-empty_scope file chunk = record { file = file; chunk = chunk; declared = []; explicit = []; wild = []; taken = [] }
+empty_scope file chunk = record { file = file; chunk = chunk; declared = []; ahead = []; explicit = []; wild = []; taken = [] }
+
+-- what is declared by a name, or what the text declares further on, which is seen in the whole scope
+abbrev pub or_ahead : List Declared → List ℕ → Option Declared → Option Declared
+or_ahead ahead n (Some d) = Some d
+or_ahead ahead n None = declaration_of n ahead
+
+abbrev pub declaration_in : Scope → List ℕ → Option Declared
+declaration_in s n = or_ahead s.ahead n (declaration_of n s.declared)
+
+-- a declaration that stands further on more, of which the first of a name stays
+abbrev pub announcing : Scope → Declared → Scope
+announcing s d = record s { ahead = with_item declared_name s.ahead d }
 
 -- a declaration more, of which the first of a name stays
 abbrev pub declaring : Scope → Declared → Scope

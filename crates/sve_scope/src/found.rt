@@ -61,7 +61,7 @@ fn in_scope<'a>(scope: &'a Scope, place: usize, here: &Scope, token: u32, name: 
     among_candidates(scope, place, here, token, name)
 }
 
-/// The declaration of the name, where the use sees it.
+/// The declaration of the name, where the use sees it; of a name that is seen in its whole scope it may stand further on.
 fn seen_declaration<'a>(
     scope: &'a Scope,
     here: &Scope,
@@ -70,7 +70,7 @@ fn seen_declaration<'a>(
 ) -> Option<&'a Declared>
     ensures { option_map (λ d. d.now) result ≡ seen_declaration (spot here.now.file here.now.chunk token) name.now scope.now }
 {
-    let declared = scope.declared.get(name)?;
+    let declared = scope.declaration(name)?;
     if declared.is_seen(&here.file, here.chunk, token) {
         Some(declared)
     } else {

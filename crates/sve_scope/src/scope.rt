@@ -1,6 +1,6 @@
-ghost use Rattle.std.specs.Prelude.{◌≡◌, IfOk, OnErr, OnOk, is_some, not};
+ghost use Rattle.std.specs.Prelude.{◌≡◌, IfOk, OnErr, OnOk, is_some, not, option_map};
 ghost use Rattle.sve_table.specs.Tables.{item_of};
-ghost use Rattle.sve_scope.specs.Scopes.{declaring, declared_as, empty_scope, how_declared, imported_as, how_imported, import_of, importing, importing_all, is_declared_before, is_imported, taking, wildcard_name};
+ghost use Rattle.sve_scope.specs.Scopes.{announcing, declaration_in, declaring, declared_as, empty_scope, how_declared, imported_as, how_imported, import_of, importing, importing_all, is_declared_before, is_imported, taking, wildcard_name};
 
 use crate::{Declared, Explicit, Wildcard};
 use std::alloc::Global;
@@ -17,6 +17,9 @@ pub struct Scope {
     pub chunk: u32,
     /// What is declared in it.
     pub declared: Table<Declared>,
+    /// What its text declares further on and is seen in the whole scope: functions, instances and generate blocks whose declarations
+    /// a fold over the text has not come to. What is declared is taken before it.
+    pub ahead: Table<Declared>,
     /// The names that are imported into it one by one.
     pub explicit: Table<Explicit>,
     /// The packages of which all names are imported into it.
@@ -48,6 +51,7 @@ impl Scope {
             file,
             chunk,
             declared: Table::new(alloc),
+            ahead: Table::new(alloc),
             explicit: Table::new(alloc),
             wild: Table::new(alloc),
             taken: Table::new(alloc),
@@ -74,6 +78,29 @@ impl Scope {
         ensures { result ≡ is_imported self.now name.now }
     {
         self.explicit.get(name).is_some() || self.taken.get(name).is_some()
+    }
+
+    /// Notes that the text declares a name further on, which is seen in the whole scope (IEEE 1800-2017, 23.9). Of two of one name
+    /// the first stays.
+    ///
+    /// # Errors
+    /// For want of memory, and the scope is then as before.
+    pub fn announce(&mut self, declared: Declared) -> Result<(), NoMemory>
+        ensures scope { OnOk result (self.new ≡ announcing self.old declared) }
+        ensures unchanged { OnErr result (self.new ≡ self.old) }
+    {
+        self.ahead.add(declared)?;
+        Ok(())
+    }
+
+    /// What is declared by a name, or what its text declares by it further on and is seen in the whole scope. It takes no memory.
+    pub fn declaration(&self, name: &Name) -> Option<&Declared>
+        ensures { option_map (λ d. d.now) result ≡ declaration_in self.now name.now }
+    {
+        match self.declared.get(name) {
+            Some(declared) => Some(declared),
+            None => self.ahead.get(name),
+        }
     }
 
     /// Imports one name of a package. It does not stand where the name is declared before it, and of two imports of one name the
