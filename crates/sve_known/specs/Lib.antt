@@ -1,0 +1,4 @@
+pub mod Packages
+pub mod Naming
+pub mod Constants
+pub mod Wrongs
