@@ -1,5 +1,9 @@
 //! What commits and asks are told.
+ghost use Rattle.std.specs.Prelude.{◌≡◌};
+ghost use Rattle.sve_core.specs.Asks.{outcome_of};
+
 use sve_bytes::List;
+use sve_store::Answer;
 use sve_text::Why;
 
 /// What a commit is told (own).
@@ -22,4 +26,16 @@ pub enum Outcome {
     Spent { budget: u32 },
     /// It was asked at revision `base`, and its client was told of revision `newer` before it was answered.
     Cancelled { base: u64, newer: u64 },
+}
+
+impl Outcome {
+    /// What an ask with this answer is told, where nothing cancels it.
+    pub fn of(budget: u32, answer: Answer) -> Outcome
+        ensures { result ≡ outcome_of budget answer }
+    {
+        match answer {
+            Answer::Done(lines) => Outcome::Answered(lines),
+            Answer::Spent => Outcome::Spent { budget },
+        }
+    }
 }

@@ -86,9 +86,12 @@ impl Fault {
     }
 }
 
-/// What a diagnostic names, by its text.
+/// The name that a text is, as a diagnostic shows it: its first 1,024 bytes, and none where it is empty.
+///
+/// # Errors
+/// Only for want of memory.
 #[tactic(auto, using(crate::proofs::Arguments::argument_is, crate::proofs::Arguments::end_of))]
-fn argument(alloc: Global, text: &[u8]) -> Result<Option<Name>, NoMemory>
+pub fn argument(alloc: Global, text: &[u8]) -> Result<Option<Name>, NoMemory>
     ensures { IfOk result (λ n. n ≡ argument_of text.now) }
 {
     if text.is_empty() {

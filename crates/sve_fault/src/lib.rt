@@ -4,5 +4,5 @@
 mod fault;
 mod fuel;
 
-pub use fault::{Fault, Said};
+pub use fault::{Fault, Said, argument};
 pub use fuel::{Fuel, Halted, spend};

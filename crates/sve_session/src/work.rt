@@ -4,7 +4,6 @@ ghost use Rattle.sve_text.specs.declared.edit.Mode.TheVariants.{Pinned};
 ghost use Rattle.sve_store.specs.Made.{values_of};
 ghost use Rattle.sve_store.specs.Values.{IsAnswer};
 ghost use Rattle.sve_watch.specs.Looks.{HasLooked};
-ghost use Rattle.sve_core.specs.Asks.{outcome_of};
 ghost use Rattle.sve_session.specs.Asks.{IsOutcome};
 
 use std::alloc::{AllocError, Global};
@@ -12,7 +11,7 @@ use sve_board::{Board, Pass};
 use sve_bytes::NoMemory;
 use sve_core::Outcome;
 use sve_io::Halt;
-use sve_store::{Answer, Ending, Snapshot};
+use sve_store::{Ending, Snapshot};
 use sve_text::Mode;
 use sve_watch::{latest_answer, pinned_answer};
 
@@ -36,11 +35,11 @@ pub(crate) fn outcome<K: Ending>(
     match mode {
         Mode::Pinned => {
             let answer = pinned_answer(alloc, snapshot, kinds, query, budget)?;
-            Ok(told(answer, budget))
+            Ok(Outcome::of(budget, answer))
         }
         Mode::Latest => {
             match latest_answer(alloc, board, snapshot, pass, kinds, query, budget) {
-                Ok(answer) => Ok(told(answer, budget)),
+                Ok(answer) => Ok(Outcome::of(budget, answer)),
                 Err(Halt::Stopped(newer)) => Ok(Outcome::Cancelled {
                     base: snapshot.revision(),
                     newer,
@@ -48,15 +47,5 @@ pub(crate) fn outcome<K: Ending>(
                 Err(Halt::NoMemory) => Err(AllocError),
             }
         }
-    }
-}
-
-/// What an ask with this answer is told, where nothing cancels it.
-fn told(answer: Answer, budget: u32) -> Outcome
-    ensures { result ≡ outcome_of budget answer }
-{
-    match answer {
-        Answer::Done(lines) => Outcome::Answered(lines),
-        Answer::Spent => Outcome::Spent { budget },
     }
 }

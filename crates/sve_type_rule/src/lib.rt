@@ -14,7 +14,7 @@ mod typed;
 mod values;
 
 pub use members::{Members, member_after, no_members};
-pub use names::{automatic, explicit, name_of, no_names};
+pub use names::{automatic, explicit, no_names};
 pub use naming::{NamedType, named, packed, unpacked};
 pub use ranges::{Ranges, no_ranges, ranged};
 pub use typed::{Typed, atom, plain, vector};

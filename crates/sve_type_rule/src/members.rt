@@ -2,12 +2,11 @@ ghost use Rattle.std.specs.Prelude.{◌≡◌, [], IfOk};
 ghost use Rattle.sve_fault.specs.Faults.{argument_of};
 ghost use Rattle.sve_type_rule.specs.Members.{membered, no_members, can_be_member, with_member, member_after};
 
-use crate::names::name_of;
 use crate::noted::noted;
 use std::alloc::Global;
 use sve_bytes::{Name, NoMemory};
 use sve_diag::Code;
-use sve_fault::Fault;
+use sve_fault::{Fault, argument};
 use sve_types::{Base, Ty};
 
 /// The members of a packed structure, the most significant first (IEEE 1800-2017, 7.2.1).
@@ -54,7 +53,7 @@ fn with_member(
 ) -> Result<Vec<(Name, Ty)>, NoMemory>
     ensures { IfOk result (λ m. m.items ≡ with_member members.items (argument_of name.now) ty.now) }
 {
-    match name_of(alloc, name)? {
+    match argument(alloc, name)? {
         None => Ok(members),
         Some(name) => {
             let mut members = members;

@@ -3,7 +3,6 @@ ghost use Rattle.std.specs.List.{list_any};
 ghost use Rattle.sve_table.specs.Tables.{item_of};
 ghost use Rattle.sve_value.specs.Vector.{IsWidth, Vector};
 ghost use Rattle.sve_operand.specs.Pending.{meaning_of};
-ghost use Rattle.sve_fault.specs.Faults.{argument_of};
 ghost use Rattle.sve_rule.specs.Judged.{judged};
 ghost use Rattle.sve_type_rule.specs.Same.{digits_of};
 ghost use Rattle.sve_type_rule.specs.declared.values.Last.TheVariants as is_last;
@@ -11,17 +10,14 @@ ghost use Rattle.sve_type_rule.specs.Names.{named, no_names, first_value, next_o
 
 use crate::same::{digits, same};
 use crate::values::{Last, Names};
-use std::alloc::{AllocError, Global};
-use sve_bytes::{BadName, Name, NoMemory};
+use std::alloc::Global;
+use sve_bytes::{Name, NoMemory};
 use sve_diag::Code;
-use sve_fault::Fault;
+use sve_fault::{Fault, argument};
 use sve_operand::Operand;
 use sve_rule::{Judged, Target};
 use sve_table::Table;
 use sve_value::{Binary, Bits, binary, truth};
-
-/// How many bytes a name has at most.
-const MAX_NAME: usize = 1024;
 
 /// No name. It takes no memory.
 #[tactic(auto, unfolding(crate::specs::Same::digits_of_names))]
@@ -208,23 +204,6 @@ fn is_taken(names: &Names, value: Bits, digits: &Name) -> bool
     is_among(&names.values, digits)
 }
 
-/// The name that a text is: its first 1,024 bytes, and none where it is empty.
-#[tactic(auto, using(sve_fault::proofs::Arguments::argument_is, sve_fault::proofs::Arguments::end_of, sve_fault::proofs::Arguments::some_bytes))]
-pub fn name_of(alloc: Global, text: &[u8]) -> Result<Option<Name>, NoMemory>
-    ensures { IfOk result (λ n. n ≡ argument_of text.now) }
-{
-    if text.is_empty() {
-        return Ok(None);
-    }
-    let end = MAX_NAME.min(text.len());
-    match Name::of(alloc, &text[..end]) {
-        Ok(name) => Ok(Some(name)),
-        Err(BadName::NoMemory) => Err(AllocError),
-        Err(BadName::Empty) => unreachable!(),
-        Err(BadName::TooLong(_)) => unreachable!(),
-    }
-}
-
 /// The names, the last of them with a value or without one.
 fn with_last(before: Names, last: Last) -> Names
     ensures { named result ≡ record { names = before.names.items; last = last; faults = before.faults.items } }
@@ -299,7 +278,7 @@ fn entered_value(
     if is_taken(&before, value, &digits) {
         return without_value(before, Fault::about(alloc, token, Code::C08, name)?);
     }
-    match name_of(alloc, name)? {
+    match argument(alloc, name)? {
         None => Ok(with_last(before, Last::Value(value))),
         Some(name) => with_name(before, name, value, digits),
     }

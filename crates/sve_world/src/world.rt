@@ -3,7 +3,6 @@ ghost use Rattle.std.specs.Prelude.{◌≡◌, ◌≤◌, [], Some, None, IfOk, 
 ghost use Rattle.sve_history.specs.Histories.{IsOpening};
 ghost use Rattle.sve_store.specs.Made.{values_of};
 ghost use Rattle.sve_store.specs.Values.{IsAnswer};
-ghost use Rattle.sve_core.specs.Asks.{outcome_of};
 ghost use Rattle.sve_seat.specs.Seats.{new_seat, IsWorld};
 ghost use Rattle.sve_world.specs.Machine.{IsAllowed, Follows, MayCommit, after_commit, MayLook, after_look, MayBegin, after_begin, MayAsk, AfterAsk, MayPublish, after_publish};
 
@@ -13,7 +12,7 @@ use std::marker::Model;
 use sve_bytes::{List, NoMemory};
 use sve_core::{Core, Outcome};
 use sve_seat::{Seat, Told};
-use sve_store::{Answer, Fresh, Snapshot, Start, plain_answer};
+use sve_store::{Fresh, Snapshot, Start, plain_answer};
 use sve_text::{Edit, Files, Mode};
 
 /// What all clients share, and what each of them knows. Whatever events come, each where it is allowed, the history is
@@ -139,7 +138,7 @@ impl<K: Start> World<K> {
         };
         let revision = open.snapshot.revision();
         let answer = plain_answer(alloc, &open.snapshot, &query, budget)?;
-        let outcome = outcome_of(budget, answer);
+        let outcome = Outcome::of(budget, answer);
         seat.make_room()?;
         seat.hear_answer(Told::Asked {
             command,
@@ -203,16 +202,6 @@ impl<K: Start> World<K> {
 impl<K: Start> Drop for World<K> {
     fn drop(self) {
         let World { core: _, seats: _ } = self;
-    }
-}
-
-/// What an ask with this answer is told.
-fn outcome_of(budget: u32, answer: Answer) -> Outcome
-    ensures { result ≡ outcome_of budget answer }
-{
-    match answer {
-        Answer::Done(lines) => Outcome::Answered(lines),
-        Answer::Spent => Outcome::Spent { budget },
     }
 }
 

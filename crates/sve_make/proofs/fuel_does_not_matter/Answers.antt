@@ -1,4 +1,4 @@
-use Rattle.sve_make.specs.Needs.{same_fuel}
+use Rattle.sve_make.proofs.Needs.{same_fuel}
 use Rattle.sve_make.proofs.fuel_does_not_matter.Goals as goal
 
 pub returns : goal.returns

@@ -1,4 +1,4 @@
-use Rattle.sve_make.specs.AtFiles.{reading}
+use Rattle.sve_make.proofs.Values.{reading}
 use Rattle.sve_make.proofs.needs_are_read.Goals as goal
 
 pub returns : goal.returns

@@ -1,5 +1,5 @@
-use Rattle.sve_make.specs.AtFiles.{tokens_value, chunks_value}
-use Rattle.sve_make.specs.IndexAt.{index_value}
+use Rattle.sve_make.proofs.Values.{tokens_value, chunks_value}
+use Rattle.sve_make.proofs.IndexValue.{index_value}
 use Rattle.sve_make.proofs.values_are_those_of_the_files.Goals as goal
 
 pub returns-clause-tokens : goal.returns-clause-tokens

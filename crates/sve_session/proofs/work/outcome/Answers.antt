@@ -12,7 +12,7 @@ returns-in_ok-answer-in-Pinned-clause-outcome g c =
     let r = c.args.snapshot.now.revision in
     let pass = c.args.pass.now in
     let may : MayAnswer c.args.mode r pass pass = subst (λ (m : Mode). MayAnswer m r pass pass) (sym c.in-Pinned.is) tt in
-    subst (IsOutcome answers r c.args.budget c.args.mode pass pass) (sym c.told.ensures) (told_answer answers r c.args.budget c.args.mode pass pass c.in_ok-answer-in-Pinned.answer c.in_ok-answer-in-Pinned.ensures.answer may)
+    subst (IsOutcome answers r c.args.budget c.args.mode pass pass) (sym c.of.ensures) (told_answer answers r c.args.budget c.args.mode pass pass c.in_ok-answer-in-Pinned.answer c.in_ok-answer-in-Pinned.ensures.answer may)
 
 pub returns-in-Ok-clause-outcome : goal.returns-in-Ok-clause-outcome
 returns-in-Ok-clause-outcome g c =
@@ -21,4 +21,4 @@ returns-in-Ok-clause-outcome g c =
     let before = c.args.pass.now in
     let after = c.latest_answer.new.pass in
     let may : MayAnswer c.args.mode r before after = subst (λ (m : Mode). MayAnswer m r before after) (sym c.in-Latest.is) c.in-Ok.ensures.looks in
-    subst (IsOutcome answers r c.args.budget c.args.mode before after) (sym c.told-in-Ok.ensures) (told_answer answers r c.args.budget c.args.mode before after c.in-Ok.answer c.in-Ok.ensures.answer may)
+    subst (IsOutcome answers r c.args.budget c.args.mode before after) (sym c.of-in-Ok.ensures) (told_answer answers r c.args.budget c.args.mode before after c.in-Ok.answer c.in-Ok.ensures.answer may)

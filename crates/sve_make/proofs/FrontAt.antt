@@ -17,7 +17,7 @@ use Rattle.sve_gist.specs.Gists.{Gist, gist_of}
 use Rattle.sve_make.specs.Make.{part_of, reading_at, reading_of, gists_in}
 use Rattle.sve_make.specs.AtFiles.{tokens_at, chunks_at}
 use Rattle.sve_make.specs.IndexAt.{chunk_gist, chunk_gists, unit_gists}
-use Rattle.sve_make.specs.FromElements.{parts_gists, elements_gists}
+use Rattle.sve_make.proofs.FromElements.{parts_gists, elements_gists}
 
 within_by : (ts : List Token) (c : Chunk) → c.from ≤ c.to → c.to ≤ length ts → part_of ts c ≡ slice_range ts c.from c.to
 within_by ts c forward within = rw (le-leb c.from c.to forward, le-leb c.to (length ts) within) refl

@@ -13,7 +13,7 @@ use Rattle.sve_key.specs.declared.value.Value.{Value}
 use Rattle.sve_key.specs.declared.value.Value.TheVariants as values
 use Rattle.sve_key.specs.Parts.{TextValue, names_there}
 use Rattle.sve_make.specs.Make.{given_of}
-use Rattle.sve_make.specs.SameNames.{same_names}
+use Rattle.sve_make.proofs.SameNames.{same_names}
 
 same_pair : (a v : Value) (s t : ℕ) → ◌≡◌ {A = Option (Value × ℕ)} (Some (a, s)) (Some (v, t)) → (a ≡ v) × (s ≡ t)
 same_pair a v s t e = let one : ◌≡◌ {A = Value × ℕ} (a, s) (v, t) = cc in (ap (λ (p : Value × ℕ). p.0) one, ap (λ (p : Value × ℕ). p.1) one)
