@@ -100,7 +100,10 @@ fn form_order(base: &Base, other: &Base) -> Ordering
             Base::Struct {
                 signed: sign,
                 members: opposite,
-            } => bool_order(*signed, *sign).then(members_order(members, opposite)),
+            } => bool_order(*signed, *sign).then(members_order(
+                members.as_slice(),
+                opposite.as_slice(),
+            )),
             Base::Text => Ordering::Less,
         },
         Base::Text => match other {

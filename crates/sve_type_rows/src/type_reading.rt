@@ -4,6 +4,7 @@
 //! the topmost a member x of the one below.
 use std::alloc::Global;
 use std::mem;
+use std::sync::Arc;
 use sve_bytes::{List, Name, NoMemory};
 use sve_row::{name_of, offset_of, value_of, words_of};
 use sve_types::{Atom, Base, Range, Ty, Vec_};
@@ -21,7 +22,7 @@ pub fn type_of(alloc: Global, words: &str) -> Result<Option<Ty>, NoMemory> {
 
 /// Does to the stack what a word says, and says whether it says anything.
 fn is_done(alloc: Global, stack: &mut Vec<Ty>, word: &str) -> Result<bool, NoMemory> {
-    if let Some(base) = base_of(alloc, word) {
+    if let Some(base) = base_of(alloc, word)? {
         stack.push(plain(alloc, base))?;
         return Ok(true);
     }
@@ -75,20 +76,20 @@ fn vector_of(word: &str) -> Option<Vec_> {
 }
 
 /// A type that a keyword names.
-fn base_of(alloc: Global, word: &str) -> Option<Base> {
+fn base_of(alloc: Global, word: &str) -> Result<Option<Base>, NoMemory> {
     if let Some(atom) = atom_of(word) {
-        return Some(Base::Atom(atom, atom != Atom::Time));
+        return Ok(Some(Base::Atom(atom, atom != Atom::Time)));
     }
     if let Some(vector) = vector_of(word) {
-        return Some(Base::Vector(vector, false));
+        return Ok(Some(Base::Vector(vector, false)));
     }
     match word {
-        "string" => Some(Base::Text),
-        "struct" => Some(Base::Struct {
+        "string" => Ok(Some(Base::Text)),
+        "struct" => Ok(Some(Base::Struct {
             signed: false,
-            members: Vec::new(alloc),
-        }),
-        _ => None,
+            members: Arc::new(alloc, Vec::new(alloc))?,
+        })),
+        _ => Ok(None),
     }
 }
 
@@ -115,7 +116,7 @@ fn enumeration(alloc: Global, file: Name, token: u32, of: Ty) -> Result<Base, No
     Ok(Base::Enum {
         id: (file, 0, token),
         of,
-        names: List::of(Vec::new(alloc)),
+        names: Arc::new(alloc, List::of(Vec::new(alloc)))?,
     })
 }
 
@@ -137,12 +138,15 @@ fn is_enumeration(alloc: Global, stack: &mut Vec<Ty>, token: &str) -> Result<boo
     }
 }
 
-/// Makes a type a member of another, and says whether that is a structure.
+/// Makes a type a member of another, and says whether that is a structure of its own.
 fn is_added(whole: &mut Ty, name: Name, member: Ty) -> Result<bool, NoMemory> {
-    match &mut whole.base {
-        Base::Struct { members, .. } => members.push((name, member))?,
-        _ => return Ok(false),
-    }
+    let Base::Struct { members, .. } = &mut whole.base else {
+        return Ok(false);
+    };
+    let Some(members) = Arc::get_mut(members) else {
+        return Ok(false);
+    };
+    members.push((name, member))?;
     Ok(true)
 }
 
@@ -203,9 +207,12 @@ fn is_name(alloc: Global, base: &mut Base, name: &str, value: &str) -> Result<bo
     let Some(name) = name_of(alloc, name.as_bytes())? else {
         return Ok(false);
     };
-    match base {
-        Base::Enum { names, .. } => push(alloc, names, (name, value))?,
-        _ => return Ok(false),
-    }
+    let Base::Enum { names, .. } = base else {
+        return Ok(false);
+    };
+    let Some(names) = Arc::get_mut(names) else {
+        return Ok(false);
+    };
+    push(alloc, names, (name, value))?;
     Ok(true)
 }

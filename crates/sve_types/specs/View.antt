@@ -1,5 +1,6 @@
 -- What contracts see of a `Ty`: the data type that its parts stand for.
 use Rattle.std.specs.Prelude.{ℕ, List, [], ◌∷◌, ◌+◌}
+use Rattle.std.specs.Arc.{arc_value}
 use Rattle.sve_types.specs.DataType.{DataType, data_type, Form, atom, vector, enumeration, structure, text, Members, no_member, member}
 use Rattle.sve_types.specs.declared.ty.Base.{Base}
 use Rattle.sve_types.specs.declared.ty.Base.TheVariants.{Atom, Vector, Enum, Struct, Text}
@@ -14,8 +15,8 @@ members_of (m ∷ ms) = member m.0 m.1 (members_of ms)
 abbrev pub form_of : Base → Form
 form_of (Atom a s) = atom a s
 form_of (Vector v s) = vector v s
-form_of (Enum id of names) = enumeration id of.value names
-form_of (Struct s ms) = structure s (members_of ms.items)
+form_of (Enum id of names) = enumeration id of.value (arc_value names)
+form_of (Struct s ms) = structure s (members_of (arc_value ms).items)
 form_of Text = text
 
 abbrev pub view_of : Inside → DataType

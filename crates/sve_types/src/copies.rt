@@ -3,8 +3,8 @@ ghost use Rattle.sve_types.specs.View.{form_of};
 
 use crate::ty::{Base, Range, Ty};
 use std::alloc::Global;
-use sve_bytes::{List, Name, NoMemory};
-use sve_value::Bits;
+use std::sync::Arc;
+use sve_bytes::{List, NoMemory};
 
 fn copy_of_dimensions(alloc: Global, dimensions: &[Range]) -> Result<List<Range>, NoMemory>
     ensures { IfOk result (λ l. l ≡ dimensions.now) }
@@ -12,16 +12,6 @@ fn copy_of_dimensions(alloc: Global, dimensions: &[Range]) -> Result<List<Range>
     let mut copies = Vec::new(alloc);
     'dimensions: for range in dimensions {
         copies.push(*range)?;
-    }
-    Ok(List::of(copies))
-}
-
-fn copy_of_names(alloc: Global, names: &[(Name, Bits)]) -> Result<List<(Name, Bits)>, NoMemory>
-    ensures { IfOk result (λ l. l ≡ names.now) }
-{
-    let mut copies = Vec::new(alloc);
-    'names: for (name, value) in names {
-        copies.push((name.copy()?, *value))?;
     }
     Ok(List::of(copies))
 }
@@ -49,24 +39,12 @@ fn copy_of_base(alloc: Global, base: &Base) -> Result<Base, NoMemory>
         Base::Enum { id, of, names } => Ok(Base::Enum {
             id: (id.0.copy()?, id.1, id.2),
             of: Box::new(alloc, copy_of(alloc, of)?)?,
-            names: copy_of_names(alloc, names.items())?,
+            names: Arc::try_clone(names)?,
         }),
         Base::Struct { signed, members } => Ok(Base::Struct {
             signed: *signed,
-            members: copy_of_members(alloc, members)?,
+            members: Arc::try_clone(members)?,
         }),
         Base::Text => Ok(Base::Text),
     }
-}
-
-#[cycle(copy)]
-#[tactic(auto, using(crate::proofs::Rows::size_of_member))]
-fn copy_of_members(alloc: Global, members: &[(Name, Ty)]) -> Result<Vec<(Name, Ty)>, NoMemory>
-    ensures { IfOk result (λ copies. copies.items ≡ members.now) }
-{
-    let mut copies = Vec::new(alloc);
-    'members: for (name, member) in members {
-        copies.push((name.copy()?, copy_of(alloc, member)?))?;
-    }
-    Ok(copies)
 }

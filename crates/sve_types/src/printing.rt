@@ -170,7 +170,7 @@ fn append_base(alloc: Global, text: &mut Vec<u8>, base: &Base) -> Result<(), NoM
         }
         Base::Struct { signed, members } => {
             text.extend_from_slice(opening(*signed))?;
-            append_members(alloc, text, members)?;
+            append_members(alloc, text, members.as_slice())?;
             text.extend_from_slice(b"}")
         }
         Base::Text => text.extend_from_slice(b"string"),

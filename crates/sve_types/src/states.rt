@@ -36,7 +36,7 @@ fn base_has_four_states(base: &Base) -> bool
         Base::Atom(atom, _) => atom_has_four_states(*atom),
         Base::Vector(vec, _) => vec_has_four_states(*vec),
         Base::Enum { of, .. } => four_state(of),
-        Base::Struct { members, .. } => a_member_has_four_states(members),
+        Base::Struct { members, .. } => a_member_has_four_states(members.as_slice()),
         Base::Text => false,
     }
 }

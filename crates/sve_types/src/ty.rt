@@ -3,6 +3,7 @@ ghost use Rattle.std.specs.Prelude.{◌≡◌, IfOk};
 use crate::copies::copy_of;
 use std::alloc::Global;
 use std::marker::Model;
+use std::sync::Arc;
 use sve_bytes::{List, Name, NoMemory};
 use sve_value::Bits;
 
@@ -70,15 +71,15 @@ pub enum Base {
         id: (Name, u32, u32),
         /// Its base type.
         of: Box<Ty>,
-        /// Those of its names that have a value, in the order in which they are declared, each with its value.
-        names: List<(Name, Bits)>,
+        /// Those of its names that have a value, in the order in which they are declared, each with its value. Copies share them.
+        names: Arc<List<(Name, Bits)>>,
     },
     /// A packed structure (7.2.1).
     Struct {
         /// Whether `signed` is written.
         signed: bool,
-        /// Its members, the most significant first.
-        members: Vec<(Name, Ty)>,
+        /// Its members, the most significant first. Copies share them.
+        members: Arc<Vec<(Name, Ty)>>,
     },
     /// A string, which only a parameter can be (6.16).
     Text,
@@ -104,7 +105,7 @@ impl Model for Ty {
 }
 
 impl Ty {
-    /// The same type, with memory of its own.
+    /// The same type, which shares names and members with this one.
     pub fn copy(&self, alloc: Global) -> Result<Ty, NoMemory>
         ensures { IfOk result (λ t. t ≡ self.now) }
     {

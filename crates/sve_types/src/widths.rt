@@ -55,7 +55,7 @@ fn base_width(base: &Base) -> u64
         Base::Atom(atom, _) => atom_width(*atom),
         Base::Vector(..) => 1,
         Base::Enum { of, .. } => width(of),
-        Base::Struct { members, .. } => members_width(members),
+        Base::Struct { members, .. } => members_width(members.as_slice()),
         Base::Text => 0,
     }
 }
