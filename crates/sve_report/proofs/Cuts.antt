@@ -71,7 +71,7 @@ pub record IsUncut (text : List ℕ) : Type 0 where
   pub written : with_bars text ≡ text
   pub counted : line_feeds text ≡ 0
 
-later : (b : ℕ) (bs : List ℕ) (k : ℕ) → IsFirstByte (is_byte 10) (b ∷ bs) (Some (suc k)) → ((b == 10) ≡ false) × IsFirstByte (is_byte 10) bs (Some k)
+pub later : (b : ℕ) (bs : List ℕ) (k : ℕ) → IsFirstByte (is_byte 10) (b ∷ bs) (Some (suc k)) → ((b == 10) ≡ false) × IsFirstByte (is_byte 10) bs (Some k)
 later b bs k (none, here) = (by_test (b == 10) refl, (record { low = omega arith; high = omega (arith, none.high); before = λ i from below is. none.before (suc i) (omega arith) (omega (arith, below)) is }, here))
   where
     by_test : (t : Bool) → (b == 10) ≡ t → (b == 10) ≡ false

@@ -1,3 +1,4 @@
 pub mod Cuts
+pub mod LineParts
 pub mod LineTexts
 pub mod ReadBack

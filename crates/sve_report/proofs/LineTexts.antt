@@ -65,7 +65,7 @@ lines_in-are_lines (b ∷ bs) = by_test (b == 10) refl (lines_in-are_lines bs)
     by_test false is rest = rw is (lines-before b (lines_in bs) (is_other b is) rest)
 
 -- a line, and the lines of what follows its end
-lines_in-line : (line rest : List ℕ) → Lacks 10 line → lines_in (line ++ 10 ∷ rest) ≡ line ∷ lines_in rest
+pub lines_in-line : (line rest : List ℕ) → Lacks 10 line → lines_in (line ++ 10 ∷ rest) ≡ line ∷ lines_in rest
 lines_in-line [] rest h = refl
 lines_in-line (b ∷ bs) rest h = by_test (b == 10) refl (lines_in-line bs rest h.1)
   where

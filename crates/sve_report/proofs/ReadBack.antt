@@ -4,11 +4,11 @@ use Rattle.std.specs.Str.Parse.{digits_value}
 use Rattle.std.proofs.lemmas.Fmt.{decimal_is_IsNumeral, decimal_nonempty}
 use Rattle.sve_report.specs.declared.entry.Entry.{Entry}
 use Rattle.sve_report.specs.declared.record.Record.{Record}
-use Rattle.sve_report.specs.declared.record.Record.TheVariants.{Accepted, Refused, Answered}
+use Rattle.sve_report.specs.declared.record.Record.TheVariants.{Accepted, Refused, Answered, Cancelled, Spent}
 use Rattle.sve_text.specs.declared.why.Why.{Why}
 use Rattle.sve_text.specs.declared.why.Why.TheVariants.{NoFile, Stale, Range, FileTooLarge, TooManyFiles}
 use Rattle.sve_report.specs.Lines.{ended, text_of_lines, Lacks, AreLines}
-use Rattle.sve_report.specs.Reports.{entry_line, entry_lines, why_text, refusal_text, record_lines, client_lines, clients_lines, report}
+use Rattle.sve_report.specs.Reports.{entry_line, entry_lines, why_text, refusal_text, pair_text, record_lines, client_lines, clients_lines, report}
 use Rattle.sve_report.specs.ReadBack.{Fits64, EntriesFit, WhyFits, RecordFits, RecordsFit, AllRecordsFit, IsReadBack}
 use Rattle.sve_report.proofs.LineTexts.{AreDigits, digits-decimal, decimal-lacks, lacks-append, lacks_by, text-append, are_lines-append}
 
@@ -26,7 +26,7 @@ parted b (x ∷ xs) (y ∷ ys) ts us lx ly e =
 same_number : (m n : ℕ) → Fits64 m → Fits64 n → decimal m ≡ decimal n → m ≡ n
 same_number m n fm fn e = sym (decimal_is_IsNumeral m fm).1 ∙ ap (digits_value 10) e ∙ (decimal_is_IsNumeral n fn).1
 
-front_gone : {A : Type 0} (xs ts us : List A) → xs ++ ts ≡ xs ++ us → ts ≡ us
+pub front_gone : {A : Type 0} (xs ts us : List A) → xs ++ ts ≡ xs ++ us → ts ≡ us
 front_gone [] ts us e = e
 front_gone (x ∷ xs) ts us e = front_gone xs ts us (let rest : xs ++ ts ≡ xs ++ us = cc in rest)
 
@@ -153,14 +153,36 @@ refused_lacks j r e w fj fr fe fw =
     (lacks-append 10 (codes " edit ") _ (lacks_by 10 (codes " edit ") refl)
     (lacks-append 10 (decimal e) _ (decimal-lacks 10 e (omega arith) fe) ((λ same. absurd (omega (arith, same))), why_lacks w fw))))))
 
-answered_lacks : (j r n : ℕ) → Fits64 j → Fits64 r → Fits64 n → Lacks 10 (decimal j ++ codes " answer " ++ decimal r ++ codes " " ++ decimal n)
-answered_lacks j r n fj fr fn =
-    lacks-append 10 _ (decimal n) (lacks-append 10 _ (codes " ") (lacks-append 10 _ (decimal r) (lacks-append 10 (decimal j) _ (decimal-lacks 10 j (omega arith) fj) (lacks_by 10 (codes " answer ") refl)) (decimal-lacks 10 r (omega arith) fr)) (lacks_by 10 (codes " ") refl)) (decimal-lacks 10 n (omega arith) fn)
+pair-right : (j : ℕ) (word : List ℕ) (m n : ℕ) → decimal j ++ pair_text word m n ≡ decimal j ++ 32 ∷ (word ++ 32 ∷ (decimal m ++ 32 ∷ decimal n))
+pair-right j word m n =
+    let parts : pair_text word m n ≡ 32 ∷ (word ++ 32 ∷ (decimal m ++ 32 ∷ decimal n)) = simp append_assoc in
+    ap (λ (t : List ℕ). decimal j ++ t) parts
+
+space_differs : ◌≡◌ {A = ℕ} 32 10 → ⊥
+space_differs same = absurd (omega (arith, same))
+
+pair_lacks : (j : ℕ) (word : List ℕ) (m n : ℕ) → Fits64 j → Lacks 10 word → Fits64 m → Fits64 n → Lacks 10 (decimal j ++ pair_text word m n)
+pair_lacks j word m n fj one fm fn =
+    subst (Lacks 10) (sym (pair-right j word m n))
+    (lacks-append 10 (decimal j) _ (decimal-lacks 10 j (omega arith) fj)
+    (space_differs, lacks-append 10 word _ one (space_differs, lacks-append 10 (decimal m) _ (decimal-lacks 10 m (omega arith) fm) (space_differs, decimal-lacks 10 n (omega arith) fn))))
+
+-- the two numbers of a line with this word
+pair_read : (j : ℕ) (word : List ℕ) (m n p q : ℕ) → Fits64 m → Fits64 n → Fits64 p → Fits64 q → decimal j ++ pair_text word m n ≡ decimal j ++ pair_text word p q → (m ≡ p) × (n ≡ q)
+pair_read j word m n p q fm fn fp fq e =
+    let tails = front_gone (decimal j) _ _ (sym (pair-right j word m n) ∙ e ∙ pair-right j word p q) in
+    let words : word ++ 32 ∷ (decimal m ++ 32 ∷ decimal n) ≡ word ++ 32 ∷ (decimal p ++ 32 ∷ decimal q) = cc (tails) in
+    let after = front_gone word _ _ words in
+    let numbers : decimal m ++ 32 ∷ decimal n ≡ decimal p ++ 32 ∷ decimal q = cc (after) in
+    let both = parted 32 (decimal m) (decimal p) (decimal n) (decimal q) (decimal-lacks 32 m (omega arith) fm) (decimal-lacks 32 p (omega arith) fp) numbers in
+    (same_number m p fm fp both.0, same_number n q fn fq both.1)
 
 record_are_lines : (j : ℕ) (rec : Record) → Fits64 j → RecordFits rec → AreLines (record_lines j rec)
 record_are_lines j (Accepted r) fj fits = (accepted_lacks j r fj fits, tt)
 record_are_lines j (Refused r e w) fj fits = (refused_lacks j r e w fj fits.0 fits.1 fits.2, tt)
-record_are_lines j (Answered r lines) fj fits = (answered_lacks j r (length lines) fj fits.0 fits.1, fits.2)
+record_are_lines j (Answered r lines) fj fits = (pair_lacks j (codes "answer") r (length lines) fj (lacks_by 10 (codes "answer") refl) fits.0 fits.1, fits.2)
+record_are_lines j (Cancelled base newer) fj fits = (pair_lacks j (codes "cancelled") base newer fj (lacks_by 10 (codes "cancelled") refl) fits.0 fits.1, tt)
+record_are_lines j (Spent r budget) fj fits = (pair_lacks j (codes "spent") r budget fj (lacks_by 10 (codes "spent") refl) fits.0 fits.1, tt)
 
 client_are_lines : (j : ℕ) (recs : List Record) → RecordsFit recs → j + length recs ≤ 2 ^ 64 → AreLines (client_lines j recs)
 client_are_lines j [] fits small = tt
@@ -176,27 +198,35 @@ clients_are_lines i (recs ∷ rs) fits small =
 accepted-right : (j r : ℕ) → decimal j ++ codes " accepted " ++ decimal r ≡ decimal j ++ (codes " accepted " ++ decimal r)
 accepted-right j r = append_assoc (decimal j) (codes " accepted ") (decimal r)
 
-answered-right : (j r n : ℕ) → decimal j ++ codes " answer " ++ decimal r ++ codes " " ++ decimal n ≡ decimal j ++ (codes " answer " ++ (decimal r ++ 32 ∷ decimal n))
-answered-right j r n = simp append_assoc
+-- the kinds of record differ in the second letter of their word
+abbrev second_letter : Record → ℕ
+second_letter (Accepted r) = 99
+second_letter (Refused r e w) = 101
+second_letter (Answered r lines) = 110
+second_letter (Cancelled base newer) = 97
+second_letter (Spent r budget) = 112
 
-not_alike : (j r q n : ℕ) → decimal j ++ codes " accepted " ++ decimal r ≡ decimal j ++ codes " answer " ++ decimal q ++ codes " " ++ decimal n → ⊥
-not_alike j r q n e =
-    let tails = front_gone (decimal j) _ _ (sym (accepted-right j r) ∙ e ∙ answered-right j q n) in
-    let third : 99 ≡ 110 = ap (λ (l : List ℕ). get_or l 2 0) tails in
-    absurd (omega (arith, third))
+-- a record's first line behind its number, and the lines below it
+record Head (j : ℕ) (rec : Record) : Type 0 where
+  rest : List ℕ
+  below : List (List ℕ)
+  are : record_lines j rec ≡ (decimal j ++ rest) ∷ below
+  letter : get_or rest 2 0 ≡ second_letter rec
 
--- the kinds of record differ in their second or third letter
-no_refusal : (j r q e : ℕ) (w : Why) → decimal j ++ codes " accepted " ++ decimal r ≡ decimal j ++ refusal_text q e w → ⊥
-no_refusal j r q e w same =
-    let tails = front_gone (decimal j) _ _ (sym (accepted-right j r) ∙ same ∙ refused-right j q e w) in
-    let second : 97 ≡ 114 = ap (λ (l : List ℕ). get_or l 1 0) tails in
-    absurd (omega (arith, second))
+head_of : (j : ℕ) (rec : Record) → Head j rec
+head_of j (Accepted r) = record { rest = codes " accepted " ++ decimal r; below = []; are = ap (λ (l : List ℕ). l ∷ []) (accepted-right j r); letter = refl }
+head_of j (Refused r e w) = record { rest = codes " refused " ++ (decimal r ++ (codes " edit " ++ (decimal e ++ 32 ∷ why_text w))); below = []; are = ap (λ (l : List ℕ). l ∷ []) (refused-right j r e w); letter = refl }
+head_of j (Answered r lines) = record { rest = pair_text (codes "answer") r (length lines); below = lines; are = refl; letter = refl }
+head_of j (Cancelled base newer) = record { rest = pair_text (codes "cancelled") base newer; below = []; are = refl; letter = refl }
+head_of j (Spent r budget) = record { rest = pair_text (codes "spent") r budget; below = []; are = refl; letter = refl }
 
-no_answer : (j r n q e : ℕ) (w : Why) → decimal j ++ codes " answer " ++ decimal r ++ codes " " ++ decimal n ≡ decimal j ++ refusal_text q e w → ⊥
-no_answer j r n q e w same =
-    let tails = front_gone (decimal j) _ _ (sym (answered-right j r n) ∙ same ∙ refused-right j q e w) in
-    let second : 97 ≡ 114 = ap (λ (l : List ℕ). get_or l 1 0) tails in
-    absurd (omega (arith, second))
+kind_read : (j : ℕ) (x y : Record) (ls ms : List (List ℕ)) → record_lines j x ++ ls ≡ record_lines j y ++ ms → second_letter x ≡ second_letter y
+kind_read j x y ls ms e =
+    let h = head_of j x in
+    let k = head_of j y in
+    let both = sym (ap (λ (l : List (List ℕ)). l ++ ls) h.are) ∙ e ∙ ap (λ (l : List (List ℕ)). l ++ ms) k.are in
+    let heads : decimal j ++ h.rest ≡ decimal j ++ k.rest = cc (both) in
+    sym h.letter ∙ ap (λ (l : List ℕ). get_or l 2 0) (front_gone (decimal j) h.rest k.rest heads) ∙ k.letter
 
 -- the lines of two records that go on alike
 record_read : (j : ℕ) (x y : Record) (ls ms : List (List ℕ)) → RecordFits x → RecordFits y → record_lines j x ++ ls ≡ record_lines j y ++ ms → (x ≡ y) × (ls ≡ ms)
@@ -204,21 +234,6 @@ record_read j (Accepted r) (Accepted q) ls ms fx fy e =
     let heads : decimal j ++ codes " accepted " ++ decimal r ≡ decimal j ++ codes " accepted " ++ decimal q = cc (e) in
     let same = same_number r q fx fy (front_gone (decimal j ++ codes " accepted ") _ _ heads) in
     ((λ k. Accepted (same k)), cc (e))
-record_read j (Accepted r) (Answered q lines) ls ms fx fy e =
-    let heads : decimal j ++ codes " accepted " ++ decimal r ≡ decimal j ++ codes " answer " ++ decimal q ++ codes " " ++ decimal (length lines) = cc (e) in
-    absurd (not_alike j r q (length lines) heads)
-record_read j (Accepted r) (Refused q f w) ls ms fx fy e =
-    let heads : decimal j ++ codes " accepted " ++ decimal r ≡ decimal j ++ refusal_text q f w = cc (e) in
-    absurd (no_refusal j r q f w heads)
-record_read j (Refused r f v) (Accepted q) ls ms fx fy e =
-    let heads : decimal j ++ codes " accepted " ++ decimal q ≡ decimal j ++ refusal_text r f v = cc (e) in
-    absurd (no_refusal j q r f v heads)
-record_read j (Answered r lines) (Refused q f w) ls ms fx fy e =
-    let heads : decimal j ++ codes " answer " ++ decimal r ++ codes " " ++ decimal (length lines) ≡ decimal j ++ refusal_text q f w = cc (e) in
-    absurd (no_answer j r (length lines) q f w heads)
-record_read j (Refused r f v) (Answered q lines) ls ms fx fy e =
-    let heads : decimal j ++ codes " answer " ++ decimal q ++ codes " " ++ decimal (length lines) ≡ decimal j ++ refusal_text r f v = cc (e) in
-    absurd (no_answer j q (length lines) r f v heads)
 record_read j (Refused r f v) (Refused q g w) ls ms fx fy e =
     let heads : decimal j ++ refusal_text r f v ≡ decimal j ++ refusal_text q g w = cc (e) in
     let tails = front_gone (codes " refused ") _ _ (front_gone (decimal j) _ _ (sym (refused-right j r f v) ∙ heads ∙ refused-right j q g w)) in
@@ -228,40 +243,57 @@ record_read j (Refused r f v) (Refused q g w) ls ms fx fy e =
     let edit = same_number f g fx.1 fy.1 q'.0 in
     let why = why_read v w fx.2 fy.2 q'.1 in
     ((λ k. Refused (revision k) (edit k) (why k)), cc (e))
-record_read j (Answered r lines) (Accepted q) ls ms fx fy e =
-    let heads : decimal j ++ codes " accepted " ++ decimal q ≡ decimal j ++ codes " answer " ++ decimal r ++ codes " " ++ decimal (length lines) = cc (e) in
-    absurd (not_alike j q r (length lines) heads)
 record_read j (Answered r lines) (Answered q others) ls ms fx fy e =
-    let heads : decimal j ++ codes " answer " ++ decimal r ++ codes " " ++ decimal (length lines) ≡ decimal j ++ codes " answer " ++ decimal q ++ codes " " ++ decimal (length others) = cc (e) in
+    let heads : decimal j ++ pair_text (codes "answer") r (length lines) ≡ decimal j ++ pair_text (codes "answer") q (length others) = cc (e) in
     let rests : lines ++ ls ≡ others ++ ms = cc (e) in
-    let tails = front_gone (codes " answer ") _ _ (front_gone (decimal j) _ _ (sym (answered-right j r (length lines)) ∙ heads ∙ answered-right j q (length others))) in
-    let p = parted 32 (decimal r) (decimal q) (decimal (length lines)) (decimal (length others)) (decimal-lacks 32 r (omega arith) fx.0) (decimal-lacks 32 q (omega arith) fy.0) tails in
-    let revision = same_number r q fx.0 fy.0 p.0 in
-    let size = same_number (length lines) (length others) fx.1 fy.1 p.1 in
-    let both = fronts_same lines others ls ms size rests in
+    let p = pair_read j (codes "answer") r (length lines) q (length others) fx.0 fx.1 fy.0 fy.1 heads in
+    let both = fronts_same lines others ls ms p.1 rests in
+    let revision = p.0 in
     ((λ k. Answered (revision k) (both.0 k)), both.1)
+record_read j (Cancelled base newer) (Cancelled base' newer') ls ms fx fy e =
+    let heads : decimal j ++ pair_text (codes "cancelled") base newer ≡ decimal j ++ pair_text (codes "cancelled") base' newer' = cc (e) in
+    let p = pair_read j (codes "cancelled") base newer base' newer' fx.0 fx.1 fy.0 fy.1 heads in
+    ((λ k. Cancelled (p.0 k) (p.1 k)), cc (e))
+record_read j (Spent r budget) (Spent r' budget') ls ms fx fy e =
+    let heads : decimal j ++ pair_text (codes "spent") r budget ≡ decimal j ++ pair_text (codes "spent") r' budget' = cc (e) in
+    let p = pair_read j (codes "spent") r budget r' budget' fx.0 fx.1 fy.0 fy.1 heads in
+    ((λ k. Spent (p.0 k) (p.1 k)), cc (e))
+record_read j (Accepted r) (Refused q g w) ls ms fx fy e = absurd (omega (arith, kind_read j (Accepted r) (Refused q g w) ls ms e))
+record_read j (Accepted r) (Answered q others) ls ms fx fy e = absurd (omega (arith, kind_read j (Accepted r) (Answered q others) ls ms e))
+record_read j (Accepted r) (Cancelled base' newer') ls ms fx fy e = absurd (omega (arith, kind_read j (Accepted r) (Cancelled base' newer') ls ms e))
+record_read j (Accepted r) (Spent q budget') ls ms fx fy e = absurd (omega (arith, kind_read j (Accepted r) (Spent q budget') ls ms e))
+record_read j (Refused r f v) (Accepted q) ls ms fx fy e = absurd (omega (arith, kind_read j (Refused r f v) (Accepted q) ls ms e))
+record_read j (Refused r f v) (Answered q others) ls ms fx fy e = absurd (omega (arith, kind_read j (Refused r f v) (Answered q others) ls ms e))
+record_read j (Refused r f v) (Cancelled base' newer') ls ms fx fy e = absurd (omega (arith, kind_read j (Refused r f v) (Cancelled base' newer') ls ms e))
+record_read j (Refused r f v) (Spent q budget') ls ms fx fy e = absurd (omega (arith, kind_read j (Refused r f v) (Spent q budget') ls ms e))
+record_read j (Answered r lines) (Accepted q) ls ms fx fy e = absurd (omega (arith, kind_read j (Answered r lines) (Accepted q) ls ms e))
+record_read j (Answered r lines) (Refused q g w) ls ms fx fy e = absurd (omega (arith, kind_read j (Answered r lines) (Refused q g w) ls ms e))
+record_read j (Answered r lines) (Cancelled base' newer') ls ms fx fy e = absurd (omega (arith, kind_read j (Answered r lines) (Cancelled base' newer') ls ms e))
+record_read j (Answered r lines) (Spent q budget') ls ms fx fy e = absurd (omega (arith, kind_read j (Answered r lines) (Spent q budget') ls ms e))
+record_read j (Cancelled base newer) (Accepted q) ls ms fx fy e = absurd (omega (arith, kind_read j (Cancelled base newer) (Accepted q) ls ms e))
+record_read j (Cancelled base newer) (Refused q g w) ls ms fx fy e = absurd (omega (arith, kind_read j (Cancelled base newer) (Refused q g w) ls ms e))
+record_read j (Cancelled base newer) (Answered q others) ls ms fx fy e = absurd (omega (arith, kind_read j (Cancelled base newer) (Answered q others) ls ms e))
+record_read j (Cancelled base newer) (Spent q budget') ls ms fx fy e = absurd (omega (arith, kind_read j (Cancelled base newer) (Spent q budget') ls ms e))
+record_read j (Spent r budget) (Accepted q) ls ms fx fy e = absurd (omega (arith, kind_read j (Spent r budget) (Accepted q) ls ms e))
+record_read j (Spent r budget) (Refused q g w) ls ms fx fy e = absurd (omega (arith, kind_read j (Spent r budget) (Refused q g w) ls ms e))
+record_read j (Spent r budget) (Answered q others) ls ms fx fy e = absurd (omega (arith, kind_read j (Spent r budget) (Answered q others) ls ms e))
+record_read j (Spent r budget) (Cancelled base' newer') ls ms fx fy e = absurd (omega (arith, kind_read j (Spent r budget) (Cancelled base' newer') ls ms e))
 
 -- a record's line begins with a digit, and that of a client does not
 digit_first : (ds xs ys : List ℕ) → AreDigits ds → 0 < length ds → codes "client " ++ xs ≡ ds ++ ys → ⊥
 digit_first [] xs ys h some e = absurd (omega (arith, some))
 digit_first (d ∷ ds) xs ys h some e = let first : 99 ≡ d = cc (e) in absurd (omega (arith, first, h.1))
 
--- the first line of a record, and the other ones
-head_of : (j : ℕ) (rec : Record) → (h : List ℕ) × (t : List (List ℕ)) × (record_lines j rec ≡ (decimal j ++ h) ∷ t)
-head_of j (Accepted r) = (codes " accepted " ++ decimal r, [], ap (λ (l : List ℕ). l ∷ []) (accepted-right j r))
-head_of j (Refused r e w) = (codes " refused " ++ (decimal r ++ (codes " edit " ++ (decimal e ++ 32 ∷ why_text w))), [], ap (λ (l : List ℕ). l ∷ []) (refused-right j r e w))
-head_of j (Answered r lines) = (codes " answer " ++ (decimal r ++ 32 ∷ decimal (length lines)), lines, ap (λ (l : List ℕ). l ∷ lines) (answered-right j r (length lines)))
-
 no_client : (i j : ℕ) (more : List (List Record)) (rec : Record) (ls : List (List ℕ)) → Fits64 j → clients_lines i more ≡ record_lines j rec ++ ls → ⊥
 no_client i j [] rec ls fj e =
     let h = head_of j rec in
-    let same : ◌≡◌ {A = List (List ℕ)} [] ((decimal j ++ h.0) ∷ (h.1 ++ ls)) = e ∙ ap (λ (l : List (List ℕ)). l ++ ls) h.2 in
+    let same : ◌≡◌ {A = List (List ℕ)} [] ((decimal j ++ h.rest) ∷ (h.below ++ ls)) = e ∙ ap (λ (l : List (List ℕ)). l ++ ls) h.are in
     absurd (omega (arith, ap length same))
 no_client i j (recs ∷ more) rec ls fj e =
     let h = head_of j rec in
-    let same = e ∙ ap (λ (l : List (List ℕ)). l ++ ls) h.2 in
-    let first : codes "client " ++ decimal i ≡ decimal j ++ h.0 = cc (same) in
-    digit_first (decimal j) (decimal i) h.0 (digits-decimal j fj) (decimal_nonempty j fj) first
+    let same = e ∙ ap (λ (l : List (List ℕ)). l ++ ls) h.are in
+    let first : codes "client " ++ decimal i ≡ decimal j ++ h.rest = cc (same) in
+    digit_first (decimal j) (decimal i) h.rest (digits-decimal j fj) (decimal_nonempty j fj) first
 
 records_read : (j i : ℕ) (xs ys : List Record) (more others : List (List Record)) → RecordsFit xs → RecordsFit ys → j + length xs ≤ 2 ^ 64 → j + length ys ≤ 2 ^ 64
     → client_lines j xs ++ clients_lines i more ≡ client_lines j ys ++ clients_lines i others → (xs ≡ ys) × (clients_lines i more ≡ clients_lines i others)

@@ -2,7 +2,7 @@
 use Rattle.std.specs.Prelude.{ℕ, ◌≡◌, ◌^◌, ◌<◌, List, [], ◌∷◌, length}
 use Rattle.sve_report.specs.declared.entry.Entry.{Entry}
 use Rattle.sve_report.specs.declared.record.Record.{Record}
-use Rattle.sve_report.specs.declared.record.Record.TheVariants.{Accepted, Refused, Answered}
+use Rattle.sve_report.specs.declared.record.Record.TheVariants.{Accepted, Refused, Answered, Cancelled, Spent}
 use Rattle.sve_text.specs.declared.why.Why.{Why}
 use Rattle.sve_text.specs.declared.why.Why.TheVariants.{NoFile, Stale, Range, FileTooLarge, TooManyFiles}
 use Rattle.sve_report.specs.Lines.{AreLines}
@@ -30,6 +30,8 @@ abbrev pub RecordFits : Record → Type 0
 RecordFits (Accepted r) = Fits64 r
 RecordFits (Refused r edit why) = Fits64 r × Fits64 edit × WhyFits why
 RecordFits (Answered r lines) = Fits64 r × Fits64 (length lines) × AreLines lines
+RecordFits (Cancelled base newer) = Fits64 base × Fits64 newer
+RecordFits (Spent r budget) = Fits64 r × Fits64 budget
 
 abbrev pub RecordsFit : List Record → Type 0
 RecordsFit [] = Unit {0}

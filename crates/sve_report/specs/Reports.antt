@@ -2,7 +2,7 @@
 use Rattle.std.specs.Prelude.{ℕ, ◌+◌, List, [], ◌∷◌, ◌++◌, length, codes, decimal}
 use Rattle.sve_report.specs.declared.entry.Entry.{Entry}
 use Rattle.sve_report.specs.declared.record.Record.{Record}
-use Rattle.sve_report.specs.declared.record.Record.TheVariants.{Accepted, Refused, Answered}
+use Rattle.sve_report.specs.declared.record.Record.TheVariants.{Accepted, Refused, Answered, Cancelled, Spent}
 use Rattle.sve_text.specs.declared.why.Why.{Why}
 use Rattle.sve_text.specs.declared.why.Why.TheVariants.{NoFile, Stale, Range, FileTooLarge, TooManyFiles}
 use Rattle.sve_report.specs.Lines.{text_of_lines}
@@ -28,11 +28,18 @@ why_text TooManyFiles = codes "toomanyfiles"
 abbrev pub refusal_text : ℕ → ℕ → Why → List ℕ
 refusal_text r edit why = codes " refused " ++ decimal r ++ codes " edit " ++ decimal edit ++ codes " " ++ why_text why
 
--- The record of command j: `<j> accepted <r>`, `<j> refused <r> edit <e> <why>`, or `<j> answer <r> <k>` and the k lines.
+-- ` <word> <m> <n>`
+abbrev pub pair_text : List ℕ → ℕ → ℕ → List ℕ
+pair_text word m n = codes " " ++ word ++ codes " " ++ decimal m ++ codes " " ++ decimal n
+
+-- The record of command j: `<j> accepted <r>`, `<j> refused <r> edit <e> <why>`, `<j> answer <r> <k>` and the k lines,
+-- `<j> cancelled <base> <newer>`, or `<j> spent <r> <budget>`.
 abbrev pub record_lines : ℕ → Record → List (List ℕ)
 record_lines j (Accepted r) = (decimal j ++ codes " accepted " ++ decimal r) ∷ []
 record_lines j (Refused r edit why) = (decimal j ++ refusal_text r edit why) ∷ []
-record_lines j (Answered r lines) = (decimal j ++ codes " answer " ++ decimal r ++ codes " " ++ decimal (length lines)) ∷ lines
+record_lines j (Answered r lines) = (decimal j ++ pair_text (codes "answer") r (length lines)) ∷ lines
+record_lines j (Cancelled base newer) = (decimal j ++ pair_text (codes "cancelled") base newer) ∷ []
+record_lines j (Spent r budget) = (decimal j ++ pair_text (codes "spent") r budget) ∷ []
 
 -- the records of one client, from command j on
 abbrev pub client_lines : ℕ → List Record → List (List ℕ)

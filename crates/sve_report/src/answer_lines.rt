@@ -2,9 +2,10 @@ ghost use Rattle.std.specs.Prelude.{◌≡◌, ◌∷◌, ◌++◌, [], length, 
 ghost use Rattle.sve_report.specs.Lines.{text_of_lines, barred, Lacks};
 
 use crate::cutting::add_cut;
+use memchr::memchr;
 use std::alloc::Global;
 use std::marker::Model;
-use sve_bytes::NoMemory;
+use sve_bytes::{List, NoMemory};
 use sve_text::Piece;
 
 /// The lines of an answer. They are held as one text, in which a line feed ends each of them.
@@ -74,5 +75,23 @@ impl Lines {
             text,
             count: count + line_feeds + 1,
         })
+    }
+
+    /// The same lines, each as a text of its own.
+    ///
+    /// # Errors
+    /// Only for want of memory.
+    pub fn into_list(self, alloc: Global) -> Result<List<List<u8>>, NoMemory>
+        ensures { IfOk result (λ list. list ≡ self) }
+    {
+        let Lines { text, count: _ } = self;
+        let mut lines = Vec::new(alloc);
+        let mut at = 0usize;
+        'lines: while let Some(length) = memchr(b'\n', &text[at..]) {
+            let end = at + length;
+            lines.push(List::of(Vec::from_slice(alloc, &text[at..end])?))?;
+            at = end + 1;
+        }
+        Ok(List::of(lines))
     }
 }

@@ -2,7 +2,7 @@
 ghost use Rattle.std.specs.Prelude.{◌≡◌, ◌++◌, ◌∷◌, [], IfOk, OnOk, codes, decimal};
 ghost use Rattle.sve_report.specs.Lines.{ended, text_of_lines};
 ghost use Rattle.sve_report.specs.ReadBack.{IsReadBack};
-ghost use Rattle.sve_report.specs.Reports.{report, entry_line, entry_lines, why_text, refusal_text, record_lines, client_lines, clients_lines};
+ghost use Rattle.sve_report.specs.Reports.{report, entry_line, entry_lines, why_text, refusal_text, pair_text, record_lines, client_lines, clients_lines};
 
 use crate::entry::Entry;
 use crate::record::Record;
@@ -83,30 +83,70 @@ fn add_records(text: &mut Vec<u8>, records: &[Record]) -> Result<(), NoMemory>
     Ok(())
 }
 
-/// `<j> accepted <r>`, `<j> refused <r> edit <e> <why>`, or `<j> answer <r> <k>` and the k lines.
+/// The line of a record, and behind that of an answer the lines of the answer.
 fn add_record(text: &mut Vec<u8>, j: u64, outcome: &Record) -> Result<(), NoMemory>
     ensures { OnOk result (text.new.items ≡ text.old.items ++ text_of_lines (record_lines j outcome.now)) }
 {
-    add_number(text, j)?;
     match outcome {
-        Record::Accepted { r } => {
-            add_words(text, b" accepted ")?;
-            add_number(text, *r)?;
-            add_words(text, b"\n")
-        }
-        Record::Refused { r, edit, why } => {
-            add_refusal(text, *r, *edit, why)?;
-            add_words(text, b"\n")
-        }
+        Record::Accepted { r } => add_accepted(text, j, *r),
+        Record::Refused { r, edit, why } => add_refused(text, j, *r, *edit, why),
         Record::Answered { r, lines } => {
-            add_words(text, b" answer ")?;
-            add_number(text, *r)?;
-            add_words(text, b" ")?;
-            add_number(text, lines.count() as u64)?;
-            add_words(text, b"\n")?;
-            add_words(text, lines.text())
+            add_pair(text, j, b"answer", *r, lines.items().len() as u64)?;
+            add_lines(text, lines.items())
         }
+        Record::Cancelled { base, newer } => add_pair(text, j, b"cancelled", *base, *newer),
+        Record::Spent { r, budget } => add_pair(text, j, b"spent", *r, u64::from(*budget)),
     }
+}
+
+fn add_lines(text: &mut Vec<u8>, lines: &[List<u8>]) -> Result<(), NoMemory>
+    ensures { OnOk result (text.new.items ≡ text.old.items ++ text_of_lines lines.now) }
+{
+    for line in lines {
+        add_words(text, line.items())?;
+        add_words(text, b"\n")?;
+    }
+    Ok(())
+}
+
+/// `<j> accepted <r>`
+fn add_accepted(text: &mut Vec<u8>, j: u64, r: u64) -> Result<(), NoMemory>
+    ensures { OnOk result (text.new.items ≡ text.old.items ++ ended (decimal j ++ codes " accepted " ++ decimal r)) }
+{
+    add_number(text, j)?;
+    add_words(text, b" accepted ")?;
+    add_number(text, r)?;
+    add_words(text, b"\n")
+}
+
+/// `<j> <word> <m> <n>`
+fn add_pair(text: &mut Vec<u8>, j: u64, word: &[u8], m: u64, n: u64) -> Result<(), NoMemory>
+    ensures { OnOk result (text.new.items ≡ text.old.items ++ ended (decimal j ++ pair_text word.now m n)) }
+{
+    add_number(text, j)?;
+    add_word_and_numbers(text, word, m, n)?;
+    add_words(text, b"\n")
+}
+
+/// ` <word> <m> <n>`
+fn add_word_and_numbers(text: &mut Vec<u8>, word: &[u8], m: u64, n: u64) -> Result<(), NoMemory>
+    ensures { OnOk result (text.new.items ≡ text.old.items ++ pair_text word.now m n) }
+{
+    add_words(text, b" ")?;
+    add_words(text, word)?;
+    add_words(text, b" ")?;
+    add_number(text, m)?;
+    add_words(text, b" ")?;
+    add_number(text, n)
+}
+
+/// `<j> refused <r> edit <e> <why>`
+fn add_refused(text: &mut Vec<u8>, j: u64, r: u64, edit: u32, why: &Why) -> Result<(), NoMemory>
+    ensures { OnOk result (text.new.items ≡ text.old.items ++ ended (decimal j ++ refusal_text r edit why.now)) }
+{
+    add_number(text, j)?;
+    add_refusal(text, r, edit, why)?;
+    add_words(text, b"\n")
 }
 
 /// ` refused <r> edit <e> <why>`

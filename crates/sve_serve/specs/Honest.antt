@@ -2,6 +2,7 @@
 use Rattle.std.specs.Prelude.{ℕ, ◌+◌, ◌-◌, ◌<◌, ◌≤◌, ◌≡◌, Bool, true, false, List, [], ◌∷◌, Option, Some, None, max, length, slice_get, slice_index_or, unwrap_or, map, IsTrue}
 use Rattle.std.specs.List.{AllByRecursion}
 use Rattle.sve_text.specs.declared.edit.Edit.{Edit}
+use Rattle.sve_text.specs.declared.edit.Mode.TheVariants.{Latest}
 use Rattle.sve_text.specs.Files.{FilesValue}
 use Rattle.sve_text.specs.Refusals.{refusal_of}
 use Rattle.sve_history.specs.declared.entry.Entry.{Entry as Made}
@@ -11,8 +12,8 @@ use Rattle.sve_command.specs.declared.commands.Command.{Command}
 use Rattle.sve_command.specs.declared.commands.Command.TheVariants.{Commit, Ask}
 use Rattle.sve_report.specs.declared.entry.Entry.{Entry}
 use Rattle.sve_report.specs.declared.record.Record.{Record}
-use Rattle.sve_report.specs.declared.record.Record.TheVariants.{Accepted, Refused, Answered}
-use Rattle.sve_serve.specs.Answers.{Done, IsOutcome}
+use Rattle.sve_report.specs.declared.record.Record.TheVariants.{Accepted, Refused, Answered, Cancelled, Spent}
+use Rattle.sve_serve.specs.Answers.{Done, Spent as Unanswered, IsOutcome}
 
 -- the command of a client; both count from 1
 abbrev pub command_in : List (List Command) → ℕ → ℕ → Option Command
@@ -48,18 +49,25 @@ abbrev pub front_after : ℕ → Record → ℕ
 front_after front (Accepted r) = max front r
 front_after front (Refused r edit why) = max front r
 front_after front (Answered r lines) = max front r
+front_after front (Cancelled base newer) = max front newer
+front_after front (Spent r limit) = max front r
 
 -- The record of command j of client i, at this front.
 -- A commit is accepted as a later entry of the history than any that was named, which is its own.
 -- It is refused for the first reason that it has on the files of a revision that is not older than any that was named.
--- An ask is answered by the files of such a revision.
+-- An ask is answered by the files of such a revision, or costs more than its budget there.
+-- It is cancelled only in mode latest, at such a revision, for a later one of the history.
 abbrev pub IsHonest : Script → List Entry → ℕ → ℕ → ℕ → Command → Record → Type 0
 IsHonest script entries i j front (Commit edits) (Accepted r) = (front < r) × (slice_get entries (r - 1) ≡ Some (record { client = i; command = j }))
 IsHonest script entries i j front (Commit edits) (Refused r edit why) = (front ≤ r) × (r ≤ length entries) × (refusal_of (session_files script entries r) edits ≡ Some (record { edit = edit; why = why }))
 IsHonest script entries i j front (Commit edits) (Answered r lines) = ⊥
+IsHonest script entries i j front (Commit edits) (Cancelled base newer) = ⊥
+IsHonest script entries i j front (Commit edits) (Spent r limit) = ⊥
 IsHonest script entries i j front (Ask query mode budget) (Accepted r) = ⊥
 IsHonest script entries i j front (Ask query mode budget) (Refused r edit why) = ⊥
 IsHonest script entries i j front (Ask query mode budget) (Answered r lines) = (front ≤ r) × (r ≤ length entries) × IsOutcome (session_files script entries r) query (unwrap_or budget default_budget) (Done lines)
+IsHonest script entries i j front (Ask query mode budget) (Cancelled base newer) = (mode ≡ Latest) × (front ≤ base) × (base < newer) × (newer ≤ length entries)
+IsHonest script entries i j front (Ask query mode budget) (Spent r limit) = (front ≤ r) × (r ≤ length entries) × (limit ≡ unwrap_or budget default_budget) × IsOutcome (session_files script entries r) query limit Unanswered
 
 -- one record for each command of client i from number j on, each honest at the front that the earlier ones leave
 abbrev pub Walks : Script → List Entry → ℕ → ℕ → ℕ → List Command → List Record → Type 0
@@ -74,6 +82,8 @@ accepted_from j [] = []
 accepted_from j (Accepted r ∷ recs) = j ∷ accepted_from (j + 1) recs
 accepted_from j (Refused r edit why ∷ recs) = accepted_from (j + 1) recs
 accepted_from j (Answered r lines ∷ recs) = accepted_from (j + 1) recs
+accepted_from j (Cancelled base newer ∷ recs) = accepted_from (j + 1) recs
+accepted_from j (Spent r limit ∷ recs) = accepted_from (j + 1) recs
 
 -- each client's records are honest, from client i on, and its entries in the history are exactly its accepted commands
 abbrev pub AreHonestFrom : Script → List Entry → ℕ → List (List Command) → List (List Record) → Type 0

@@ -97,7 +97,7 @@ fn run_command(
     match command {
         Command::Commit(edits) => run_commit(alloc, history, client, number, edits.items()),
         Command::Ask { query, .. } => {
-            let lines = answer_lines(alloc, history.newest(), query)?;
+            let lines = answer_lines(alloc, history.newest(), query)?.into_list(alloc)?;
             Ok(Record::Answered {
                 r: history.len(),
                 lines,
