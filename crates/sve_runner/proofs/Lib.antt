@@ -1,0 +1,5 @@
+pub mod Counts
+pub mod Ends
+pub mod Looks
+pub mod Steps
+pub mod Walking
