@@ -1,5 +1,5 @@
 -- What the front end finds at some files is what the keys say there (own).
-use Rattle.std.specs.Prelude.{ℕ, zero, suc, ◌+◌, ◌≡◌, ◌<◌, ◌≤◌, List, [], ◌∷◌, ◌++◌, length, map, drop, refl}
+use Rattle.std.specs.Prelude.{ℕ, zero, suc, ◌+◌, ◌≡◌, ◌<◌, ◌≤◌, List, [], ◌∷◌, ◌++◌, length, map, drop, Some, refl}
 use Rattle.std.proofs.Common.{sym, ap, ◌∙◌, arith, add-one, inl, inr}
 use Rattle.std.proofs.Math.Seq.{drop-cons}
 use Rattle.std.proofs.lemmas.Bool.{le-leb}
@@ -23,14 +23,15 @@ within_by : (ts : List Token) (c : Chunk) → c.from ≤ c.to → c.to ≤ lengt
 within_by ts c forward within = rw (le-leb c.from c.to forward, le-leb c.to (length ts) within) refl
 
 module _ (file : List ℕ) (ts : List Token) where
-  -- the chunk with a number is read as the part with that number
-  chunk_reads : (n : ℕ) → n < length (parts ts) → reading_at ts (slice_get (chunks_of ts) n) ≡ reading_of (slice_index_or (parts ts) n [])
+  -- the tokens of the chunk with a number are those of the part with that number
+  pub part_tokens : (n : ℕ) (c : Chunk) → slice_get (chunks_of ts) n ≡ Some c → part_of ts c ≡ slice_index_or (parts ts) n []
+  part_tokens n c is = let part = chunk_is_part ts n c is in within_by ts c part.forward part.within ∙ part.tokens
+
+  -- and so it is read as that part
+  pub chunk_reads : (n : ℕ) → n < length (parts ts) → reading_at ts (slice_get (chunks_of ts) n) ≡ reading_of (slice_index_or (parts ts) n [])
   chunk_reads n low =
       elim (slice_get_cases (chunks_of ts) n).1 [
-        | inl there ↦ (
-            let c = there.0 in
-            let part = chunk_is_part ts n c there.2 in
-            ap (reading_at ts) there.2 ∙ ap reading_of (within_by ts c part.forward part.within ∙ part.tokens))
+        | inl there ↦ ap (reading_at ts) there.2 ∙ ap reading_of (part_tokens n there.0 there.2)
         | inr past ↦ absurd (omega (arith, past.0, as_many 0 (parts ts)))
       ]
 
@@ -39,10 +40,10 @@ module _ (file : List ℕ) (ts : List Token) where
   gists_by n zero = []
   gists_by n (suc left) = gists_in file n (reading_at ts (slice_get (chunks_of ts) n)) ++ gists_by (n + 1) left
 
-  first_part : (n : ℕ) (q : List Token) (qs : List (List Token)) → drop n (parts ts) ≡ q ∷ qs → n < length (parts ts) → slice_index_or (parts ts) n [] ≡ q
+  pub first_part : (n : ℕ) (q : List Token) (qs : List (List Token)) → drop n (parts ts) ≡ q ∷ qs → n < length (parts ts) → slice_index_or (parts ts) n [] ≡ q
   first_part n q qs e low = let both : slice_index_or (parts ts) n [] ∷ drop (suc n) (parts ts) ≡ q ∷ qs = sym (drop-cons (parts ts) n [] low) ∙ e in cc
 
-  other_parts : (n : ℕ) (q : List Token) (qs : List (List Token)) → drop n (parts ts) ≡ q ∷ qs → n < length (parts ts) → drop (n + 1) (parts ts) ≡ qs
+  pub other_parts : (n : ℕ) (q : List Token) (qs : List (List Token)) → drop n (parts ts) ≡ q ∷ qs → n < length (parts ts) → drop (n + 1) (parts ts) ≡ qs
   other_parts n q qs e low =
       let both : slice_index_or (parts ts) n [] ∷ drop (suc n) (parts ts) ≡ q ∷ qs = sym (drop-cons (parts ts) n [] low) ∙ e in
       let rest : drop (suc n) (parts ts) ≡ qs = cc in

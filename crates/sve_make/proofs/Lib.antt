@@ -2,6 +2,6 @@ mod SameNames
 pub mod Stamps
 pub mod Needs
 pub mod Values
-mod IndexValue
+pub mod IndexValue
 mod FromElements
-mod FrontAt
+pub mod FrontAt
