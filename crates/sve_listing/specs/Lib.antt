@@ -1,3 +1,4 @@
+pub mod Files
 pub mod Lists
 pub mod Places
 pub mod Texts

@@ -42,8 +42,12 @@ abbrev pub within_text : List ℕ → Diag → Diag
 within_text text d = record { place = record { file = d.place.file; offset = min d.place.offset (length text) }; code = d.code; arg = d.arg }
 
 -- the line of a diagnostic, over the text of its file
-abbrev pub diag_line : List Row → Diag → List ℕ
-diag_line rows d = let text = file_text rows d.place.file in on_one_line (diag_text (within_text text d) text)
+abbrev pub line_in : List ℕ → Diag → List ℕ
+line_in text d = on_one_line (diag_text (within_text text d) text)
+
+-- the lines of diagnostics, over the texts of files by their names
+abbrev pub diags_lines_of : (List ℕ → List ℕ) → List Diag → List (List ℕ)
+diags_lines_of texts diags = listed (λ d. line_in (texts d.place.file) d) diags
 
 abbrev pub diags_lines : List Row → List Diag → List (List ℕ)
-diags_lines rows diags = listed (diag_line rows) diags
+diags_lines rows diags = diags_lines_of (file_text rows) diags

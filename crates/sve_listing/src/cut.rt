@@ -11,9 +11,9 @@ use sve_report::Lines;
 /// The most lines of a list. Where there are more, one line says how many are left out.
 const MAX_LISTED: usize = 1000;
 
-/// Those of a list that are shown: as many as there may be lines.
+/// Those of a list that are shown: as many as there may be lines, 1,000 at most. It takes no memory.
 #[tactic(auto, using(crate::proofs::Cuts::all_shown))]
-pub(crate) fn shown<T>(items: &[T]) -> &[T]
+pub fn shown<T>(items: &[T]) -> &[T]
     ensures { result.now ≡ take max_listed items.now }
 {
     if items.len() <= MAX_LISTED {
@@ -44,8 +44,11 @@ fn more_line(alloc: Global, n: usize) -> Result<Vec<u8>, NoMemory>
     Ok(line)
 }
 
-/// The lines, and where some of so many are left out, how many.
-pub(crate) fn with_more(alloc: Global, lines: Lines, count: usize) -> Result<Lines, NoMemory>
+/// The lines of those that are shown of so many things, and where some are left out, one line that says how many.
+///
+/// # Errors
+/// For want of memory alone.
+pub fn with_more(alloc: Global, lines: Lines, count: usize) -> Result<Lines, NoMemory>
     ensures { IfOk result (λ all. all ≡ with_more count lines) }
 {
     if count <= MAX_LISTED {

@@ -1,36 +1,36 @@
 //! The list of the diagnostics.
-ghost use Rattle.std.specs.Prelude.{◌≡◌, ◌++◌, ◌∷◌, [], IfOk, IfSome};
-ghost use Rattle.sve_listing.specs.Lists.{diag_line, diags_lines};
-ghost use Rattle.sve_listing.specs.Places.{IsOpened};
-ghost use Rattle.sve_listing.specs.Texts.{spot_line};
+ghost use Rattle.std.specs.Prelude.{◌≡◌, ◌≤◌, ◌++◌, ◌∷◌, [], IfOk, IfSome};
+ghost use Rattle.sve_listing.specs.Lists.{file_text, line_in, diags_lines};
 
-use crate::cut::{on_one_line, shown, with_more};
-use crate::opened::{Opened, opened_at};
-use crate::spot::Spot;
+use crate::cut::{shown, with_more};
+use crate::opened::Opened;
 use std::alloc::Global;
 use sve_bytes::NoMemory;
-use sve_diag::Diag;
+use sve_diag::{Diag, Place};
 use sve_report::Lines;
 use sve_text::Files;
 
-/// The line of a diagnostic whose place is this spot.
-fn spot_line(alloc: Global, diag: &Diag, spot: Spot) -> Result<Vec<u8>, NoMemory>
-    ensures { IfOk result (λ line. line.items ≡ spot_line diag.now spot) }
+/// The file of a place, open in front of the place: the one that is open, or opened anew.
+fn opened_before(
+    alloc: Global,
+    files: &Files,
+    opened: Option<Opened>,
+    place: &Place,
+) -> Result<Opened, NoMemory>
+    requires { IfSome opened (λ o. o.text ≡ file_text files.now.rows o.file) }
+    ensures text { IfOk result (λ o. o.text ≡ file_text files.now.rows o.file) }
+    ensures file { IfOk result (λ o. o.file ≡ place.now.file) }
+    ensures before { IfOk result (λ o. o.at ≤ place.now.offset) }
 {
-    let Spot { line, column, .. } = spot;
-    let position = format!(in alloc; ":{line}:{column}: ")?;
-    let mut shown = Vec::from_slice(alloc, diag.place.file.bytes())?;
-    shown.extend_from_slice(position.as_bytes())?;
-    shown.extend_from_slice(diag.code.spelling())?;
-    if let Some(arg) = &diag.arg {
-        shown.push(b' ')?;
-        shown.extend_from_slice(arg.bytes())?;
+    if let Some(opened) = opened {
+        if opened.is_before(place) {
+            return Ok(opened);
+        }
     }
-    Ok(shown)
+    Opened::of(&place.file, files.shared_text(alloc, &place.file)?)
 }
 
-/// These lines and that of a diagnostic, whose file is then open at the diagnostic's place. A place behind the end of its file,
-/// which none has, would be shown at the end.
+/// These lines and that of a diagnostic, whose file is then open at the diagnostic's place.
 fn with_diag(
     alloc: Global,
     files: &Files,
@@ -38,12 +38,12 @@ fn with_diag(
     lines: Lines,
     diag: &Diag,
 ) -> Result<(Lines, Opened), NoMemory>
-    requires opened { IfSome opened (IsOpened files.now.rows) }
-    ensures lines { IfOk result (λ x. x.0 ≡ lines ++ diag_line files.now.rows diag.now ∷ []) }
-    ensures opened { IfOk result (λ x. IsOpened files.now.rows x.1) }
+    requires opened { IfSome opened (λ o. o.text ≡ file_text files.now.rows o.file) }
+    ensures lines { IfOk result (λ x. x.0 ≡ lines ++ line_in (file_text files.now.rows diag.now.place.file) diag.now ∷ []) }
+    ensures opened { IfOk result (λ x. x.1.text ≡ file_text files.now.rows x.1.file) }
 {
-    let opened = opened_at(alloc, files, opened, &diag.place)?;
-    let line = on_one_line(spot_line(alloc, diag, opened.spot)?);
+    let opened = opened_before(alloc, files, opened, &diag.place)?.gone_to(diag.place.offset);
+    let line = opened.line(alloc, diag)?;
     Ok((lines.with_line(&line)?, opened))
 }
 

@@ -1,11 +1,15 @@
-//! Answers that list one thing a line: tops and diagnostics.
+//! The lines of answers: texts of files, and lists of tops and of diagnostics.
 #![tactic(auto)]
 
 mod cut;
 mod diags;
+mod files;
 mod opened;
 mod spot;
 mod tops;
 
+pub use cut::{shown, with_more};
 pub use diags::diags_lines;
+pub use files::{expanded_lines, none_lines, text_lines};
+pub use opened::Opened;
 pub use tops::tops_lines;

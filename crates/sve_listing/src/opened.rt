@@ -1,26 +1,41 @@
 //! The text of a file, gone through from one place to the next.
-ghost use Rattle.std.specs.Prelude.{◌≡◌, ◌≤◌, [], IfOk, IfSome, length, min, option_map, unwrap_or};
+ghost use Rattle.std.specs.Prelude.{◌≡◌, ◌≤◌, [], IfOk, IfSome, IsTrue, length, min};
 ghost use Rattle.std.specs.Arc.{arc_value};
-ghost use Rattle.sve_listing.specs.Places.{IsOpened, text_in};
+ghost use Rattle.sve_report.specs.Lines.{Lacks};
+ghost use Rattle.sve_text.specs.Rows.{IsInLimit};
+ghost use Rattle.sve_listing.specs.Lists.{line_in};
+ghost use Rattle.sve_listing.specs.Places.{bytes_in};
+ghost use Rattle.sve_listing.specs.Texts.{spot_line};
 
+use crate::cut::on_one_line;
 use crate::spot::{Spot, moved, start};
 use std::alloc::Global;
+use std::marker::Model;
 use std::sync::Arc;
 use sve_bytes::{List, Name, NoMemory};
-use sve_diag::Place;
-use sve_text::Files;
+use sve_diag::{Diag, Place};
 
 /// A file that was opened, and how far its text was gone through.
 #[derive(Drop)]
-pub(crate) struct Opened {
-    pub(crate) file: Name,
-    pub(crate) text: Option<Arc<List<u8>>>,
-    pub(crate) spot: Spot,
+pub struct Opened {
+    file: Name,
+    text: Option<Arc<List<u8>>>,
+    spot: Spot,
+}
+
+impl Model for Opened {
+    ghost use Rattle.sve_listing.specs.Places.{OpenedValue, IsGoneThrough, bytes_in};
+
+    ghost Value = { OpenedValue };
+
+    ghost view = { λ o. record { file = o.file; text = bytes_in o.text; at = o.spot.at } };
+
+    ghost invariant = { λ o. IsGoneThrough (bytes_in o.text) o.spot };
 }
 
 /// The bytes of a text that is there.
 fn bytes_of(text: &Option<Arc<List<u8>>>) -> &[u8]
-    ensures { result.now ≡ unwrap_or (option_map arc_value text.now) [] }
+    ensures { result.now ≡ bytes_in text.now }
 {
     match text {
         Some(text) => text.items(),
@@ -28,55 +43,69 @@ fn bytes_of(text: &Option<Arc<List<u8>>>) -> &[u8]
     }
 }
 
-/// Opens a file, at its start. One that is not there has no bytes.
-fn open(alloc: Global, files: &Files, file: &Name) -> Result<Opened, NoMemory>
-    ensures opened { IfOk result (λ o. IsOpened files.now.rows o) }
-    ensures file { IfOk result (λ o. o.file ≡ file.now) }
-    ensures at { IfOk result (λ o. o.spot.at ≡ 0) }
+/// The line of a diagnostic whose place is this spot.
+fn spot_line(alloc: Global, diag: &Diag, spot: Spot) -> Result<Vec<u8>, NoMemory>
+    ensures { IfOk result (λ line. line.items ≡ spot_line diag.now spot) }
 {
-    let text = files.shared_text(alloc, file)?;
-    let spot = start(bytes_of(&text));
-    Ok(Opened {
-        file: file.copy()?,
-        text,
-        spot,
-    })
-}
-
-/// The file of a place, open in front of the place: the one that is open, or opened anew.
-fn opened_before(
-    alloc: Global,
-    files: &Files,
-    opened: Option<Opened>,
-    place: &Place,
-) -> Result<Opened, NoMemory>
-    requires { IfSome opened (IsOpened files.now.rows) }
-    ensures opened { IfOk result (λ o. IsOpened files.now.rows o) }
-    ensures file { IfOk result (λ o. o.file ≡ place.now.file) }
-    ensures before { IfOk result (λ o. o.spot.at ≤ place.now.offset) }
-{
-    if let Some(opened) = opened {
-        if opened.file == place.file && opened.spot.at <= place.offset as usize {
-            return Ok(opened);
-        }
+    let Spot { line, column, .. } = spot;
+    let position = format!(in alloc; ":{line}:{column}: ")?;
+    let mut shown = Vec::from_slice(alloc, diag.place.file.bytes())?;
+    shown.extend_from_slice(position.as_bytes())?;
+    shown.extend_from_slice(diag.code.spelling())?;
+    if let Some(arg) = &diag.arg {
+        shown.push(b' ')?;
+        shown.extend_from_slice(arg.bytes())?;
     }
-    open(alloc, files, &place.file)
+    Ok(shown)
 }
 
-/// The file of a place, gone through up to the place, or to the end of the file.
-pub(crate) fn opened_at(
-    alloc: Global,
-    files: &Files,
-    opened: Option<Opened>,
-    place: &Place,
-) -> Result<Opened, NoMemory>
-    requires { IfSome opened (IsOpened files.now.rows) }
-    ensures opened { IfOk result (λ o. IsOpened files.now.rows o) }
-    ensures file { IfOk result (λ o. o.file ≡ place.now.file) }
-    ensures at { IfOk result (λ o. o.spot.at ≡ min place.now.offset (length (text_in o))) }
-{
-    let Opened { file, text, spot } = opened_before(alloc, files, opened, place)?;
-    let bytes = bytes_of(&text);
-    let spot = moved(bytes, spot, (place.offset as usize).min(bytes.len()));
-    Ok(Opened { file, text, spot })
+impl Opened {
+    /// A file with this text, at its start. One that is not there has no bytes.
+    ///
+    /// # Errors
+    /// For want of memory alone.
+    pub fn of(file: &Name, text: Option<Arc<List<u8>>>) -> Result<Opened, NoMemory>
+        requires in_limit { IfSome text (λ shared. IsInLimit (arc_value shared)) }
+        ensures { IfOk result (λ o. o ≡ record { file = file.now; text = bytes_in text; at = 0 }) }
+    {
+        let spot = start(bytes_of(&text));
+        Ok(Opened {
+            file: file.copy()?,
+            text,
+            spot,
+        })
+    }
+
+    /// Whether the place is in this file, and not in front of where the text was gone through to. It takes no memory.
+    pub fn is_before(&self, place: &Place) -> bool
+        ensures file { IsTrue result → self.now.file ≡ place.now.file }
+        ensures before { IsTrue result → self.now.at ≤ place.now.offset }
+    {
+        self.file == place.file && self.spot.at <= place.offset as usize
+    }
+
+    /// Goes on to an offset, or to the end of the text. It takes no memory.
+    pub fn gone_to(self, offset: u32) -> Opened
+        requires before { self.at ≤ offset }
+        ensures { result ≡ record { file = self.file; text = self.text; at = min offset (length self.text) } }
+    {
+        let Opened { file, text, spot } = self;
+        let bytes = bytes_of(&text);
+        let spot = moved(bytes, spot, (offset as usize).min(bytes.len()));
+        Opened { file, text, spot }
+    }
+
+    /// The line of a diagnostic at whose place it is: the place, as file, line and column, the code, and the argument, where it
+    /// has one. A place behind the end of its file, which none has, is shown at the end.
+    ///
+    /// # Errors
+    /// For want of memory alone.
+    pub fn line(&self, alloc: Global, diag: &Diag) -> Result<Vec<u8>, NoMemory>
+        requires here { self.now.at ≡ min diag.now.place.offset (length self.now.text) }
+        ensures line { IfOk result (λ line. line.items ≡ line_in self.now.text diag.now) }
+        ensures one_line { IfOk result (λ line. Lacks 10 line.items) }
+    {
+        let line = spot_line(alloc, diag, self.spot)?;
+        Ok(on_one_line(line))
+    }
 }
