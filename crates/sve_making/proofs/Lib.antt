@@ -1,0 +1,4 @@
+mod Filtered
+mod Counts
+mod OfWords
+mod Adding
