@@ -1,0 +1,102 @@
+-- What the words of the command line ask for (own).
+use Rattle.std.specs.Prelude.{ℕ, ◌==◌, ◌&&◌, ◌||◌, Bool, true, false, not, List, [], ◌∷◌, Option, Some, None, fold, count_by, length, take, nat_le, nat_lt, bytes_eq, codes, decimal, if◌then◌else◌}
+use Rattle.std.specs.List.{list_any}
+use Rattle.std.specs.Str.Parse.{digits_value}
+use Rattle.clap.specs.Lexer.{long_of}
+use Rattle.sve_words.specs.declared.request.Spoken.{Spoken}
+use Rattle.sve_words.specs.declared.request.Spoken.TheVariants.{Run, Usage}
+use Rattle.sve_words.specs.declared.number.TheConstants.{MAX_BUDGET}
+
+-- the number of steps that the text writes: the decimal digits of a number from 1 to the most, without sign or leading zero
+abbrev pub number_of : List ℕ → Option ℕ
+number_of text =
+    let n = digits_value 10 text in
+    if nat_le 1 n && nat_le n MAX_BUDGET && bytes_eq (decimal n) text then Some n else None
+
+-- what is said by the words so far
+pub data Said : Type 0 where
+  -- the text of the budget, where one was said, and whether the clients are to run one after another
+  said : Option (List ℕ) → Bool → Said
+  -- `--budget`, whose number is the next word
+  waits : Bool → Said
+  wrong : Said
+
+-- `--budget`, or `--budget=` and its number
+abbrev pub after_budget : Option (List ℕ) → Bool → Said
+after_budget None serial = waits serial
+after_budget (Some text) serial = said (Some text) serial
+
+-- `--serial`, which has no value
+abbrev pub after_serial : Option (List ℕ) → Option (List ℕ) → Said
+after_serial None budget = said budget true
+after_serial (Some text) budget = wrong
+
+-- `--name` or `--name=value`
+abbrev pub after_option : Option (List ℕ) → Bool → List ℕ × Option (List ℕ) → Said
+after_option budget serial option =
+    if bytes_eq (codes "budget") option.0 then after_budget option.1 serial
+    else (if bytes_eq (codes "serial") option.0 then after_serial option.1 budget else wrong)
+
+abbrev pub after_first : Option (List ℕ) → Bool → Option (List ℕ × Option (List ℕ)) → Said
+after_first budget serial None = wrong
+after_first budget serial (Some option) = after_option budget serial option
+
+-- the word behind `--budget`; an option is no number
+abbrev pub after_second : Bool → List ℕ → Option (List ℕ × Option (List ℕ)) → Said
+after_second serial word None = said (Some word) serial
+after_second serial word (Some option) = wrong
+
+-- what is said with one word more
+abbrev pub after_word : Said → List ℕ → Said
+after_word (said budget serial) word = after_first budget serial (long_of word)
+after_word (waits serial) word = after_second serial word (long_of word)
+after_word wrong word = wrong
+
+abbrev pub said_by : List (List ℕ) → Said
+said_by words = fold after_word (said None false) words
+
+-- one hyphen with something else behind it
+abbrev pub is_short : List ℕ → Bool
+is_short [] = false
+is_short (a ∷ []) = false
+is_short (a ∷ b ∷ rest) = (a == 45) && not (b == 45)
+
+-- `--`, `-h` and the like are no options of a run
+abbrev pub is_foreign : List ℕ → Bool
+is_foreign word = bytes_eq word (codes "--") || is_short word
+
+-- the word says an option that is written so: without a value, or with what stands in front of one
+abbrev pub says : List ℕ → List ℕ → List ℕ → Bool
+says plain valued word = bytes_eq word plain || bytes_eq valued (take (length valued) word)
+
+-- the option is said more than once
+abbrev pub is_said_twice : List ℕ → List ℕ → List (List ℕ) → Bool
+is_said_twice plain valued words = nat_lt 1 (count_by (says plain valued) words)
+
+abbrev pub run_with : Option ℕ → Bool → Spoken
+run_with budget serial = Run (record { budget = budget; serial = serial })
+
+abbrev pub with_number : Option ℕ → Bool → Spoken
+with_number None serial = Usage
+with_number (Some n) serial = run_with (Some n) serial
+
+abbrev pub with_budget : Option (List ℕ) → Bool → Spoken
+with_budget None serial = run_with None serial
+with_budget (Some text) serial = with_number (number_of text) serial
+
+-- what is asked for, where this is all that is said
+abbrev pub asked : Said → Spoken
+asked (said budget serial) = with_budget budget serial
+asked (waits serial) = Usage
+asked wrong = Usage
+
+-- the words behind `run`: `--budget N` or `--budget=N`, and `--serial`, in any order and each at most once
+abbrev pub options : List (List ℕ) → Spoken
+options words =
+    if list_any is_foreign words || is_said_twice (codes "--budget") (codes "--budget=") words || is_said_twice (codes "--serial") (codes "--serial=") words then Usage
+    else asked (said_by words)
+
+-- `run` and its options
+abbrev pub spoken : List (List ℕ) → Spoken
+spoken [] = Usage
+spoken (word ∷ words) = if bytes_eq word (codes "run") then options words else Usage

@@ -1,0 +1,143 @@
+//! The words behind `run`.
+ghost use Rattle.std.specs.Prelude.{◌≡◌, false, map, string_bytes, option_map, IfOk};
+ghost use Rattle.std.specs.List.{list_any};
+ghost use Rattle.clap.specs.Words.{app_of};
+ghost use Rattle.sve_words.specs.Command.{options_app};
+ghost use Rattle.sve_words.specs.Words.{with_budget, asked, said_by, is_short, is_foreign, says, is_said_twice, options, spoken};
+
+use crate::number::number;
+use crate::request::{Options, Spoken};
+use clap::error::ErrorKind;
+use clap::{Arg, ArgAction, Command};
+use std::alloc::{AllocError, Global};
+
+/// What the words ask for: `run`, and behind it `--budget N` or `--budget=N` and `--serial`, in any order and each at
+/// most once, or nothing. The program's name is none of the words.
+///
+/// # Errors
+/// Only for want of memory.
+pub fn spoken(alloc: Global, words: &[String]) -> Result<Spoken, AllocError>
+    ensures { IfOk result (λ s. s ≡ spoken (map string_bytes words.now)) }
+{
+    match words {
+        [word, rest @ ..] => {
+            if word.as_str() == "run" {
+                options(alloc, rest)
+            } else {
+                Ok(Spoken::Usage)
+            }
+        }
+        [] => Ok(Spoken::Usage),
+    }
+}
+
+/// What the words behind `run` ask for.
+fn options(alloc: Global, words: &[String]) -> Result<Spoken, AllocError>
+    ensures { IfOk result (λ s. s ≡ options (map string_bytes words.now)) }
+{
+    if has_foreign(words)
+        || is_said_twice("--budget", "--budget=", words)
+        || is_said_twice("--serial", "--serial=", words)
+    {
+        return Ok(Spoken::Usage);
+    }
+    read(alloc, words)
+}
+
+/// What the words ask for as `clap` reads them, where no foreign word is among them.
+fn read(alloc: Global, words: &[String]) -> Result<Spoken, AllocError>
+    requires { list_any is_foreign (map string_bytes words.now) ≡ false }
+    ensures { IfOk result (λ s. s ≡ asked (said_by (map string_bytes words.now))) }
+{
+    let command = command(alloc)?;
+    match command.try_get_matches_from(words) {
+        Ok(matches) => Ok(with_budget(matches.get_str("budget"), matches.get_flag("serial"))),
+        Err(error) => match error.kind() {
+            ErrorKind::OutOfMemory => Err(AllocError),
+            _ => Ok(Spoken::Usage),
+        },
+    }
+}
+
+/// The run with this budget, where one is said and is a number of steps.
+fn with_budget(budget: Option<&str>, serial: bool) -> Spoken
+    ensures { result ≡ with_budget (option_map (λ text. text.now) budget.entry) serial }
+{
+    let Some(text) = budget else {
+        return Spoken::Run(Options {
+            budget: None,
+            serial,
+        });
+    };
+    match number(text) {
+        Some(n) => Spoken::Run(Options {
+            budget: Some(n),
+            serial,
+        }),
+        None => Spoken::Usage,
+    }
+}
+
+/// The simple command of the options. A use of an option undoes an earlier one, since it is said at most once.
+fn command<'a>(alloc: Global) -> Result<Command<'a>, AllocError>
+    ensures { IfOk result (λ command. app_of command ≡ options_app) }
+{
+    let budget = Arg::new(alloc, "budget")
+        .long("budget")
+        .action(ArgAction::Set);
+    let serial = Arg::new(alloc, "serial")
+        .long("serial")
+        .action(ArgAction::SetTrue);
+    let command = Command::new(alloc, "run")
+        .no_binary_name(true)
+        .disable_help_flag(true)
+        .args_override_self(true);
+    command.arg(budget)?.arg(serial)
+}
+
+fn has_foreign(words: &[String]) -> bool
+    ensures { result ≡ list_any is_foreign (map string_bytes words.now) }
+{
+    for word in words {
+        if is_foreign(word) {
+            return true;
+        }
+    }
+    false
+}
+
+/// Whether the word is `--`, or one hyphen with something else behind it.
+fn is_foreign(word: &str) -> bool
+    ensures { result ≡ is_foreign word.now }
+{
+    word == "--" || is_short(word.as_bytes())
+}
+
+fn is_short(word: &[u8]) -> bool
+    ensures { result ≡ is_short word.now }
+{
+    match word {
+        [first, second, ..] => *first == b'-' && *second != b'-',
+        _ => false,
+    }
+}
+
+/// Whether more than one word says the option that is written so: without a value, and with what stands in front of one.
+fn is_said_twice(plain: &str, valued: &str, words: &[String]) -> bool
+    ensures { result ≡ is_said_twice plain.now valued.now (map string_bytes words.now) }
+{
+    let mut count = 0usize;
+    for word in words {
+        if says(plain, valued, word) {
+            count += 1;
+        }
+    }
+    count > 1
+}
+
+/// Whether the word says the option that is written so.
+fn says(plain: &str, valued: &str, word: &str) -> bool
+    ensures { result ≡ says plain.now valued.now word.now }
+{
+    word == plain || word.as_bytes().starts_with(valued.as_bytes())
+}

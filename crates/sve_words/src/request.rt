@@ -1,0 +1,17 @@
+/// The options of a run.
+#[derive(Clone, Copy, Debug, PartialEq, Eq)]
+pub struct Options {
+    /// The budget of asks that give none, in steps of elaboration, from 1 to 100,000,000, where it is said.
+    pub budget: Option<u32>,
+    /// Whether the clients run one after another.
+    pub serial: bool,
+}
+
+/// What the words of the command line ask for.
+#[derive(Clone, Copy, Debug, PartialEq, Eq)]
+pub enum Spoken {
+    /// A run with these options.
+    Run(Options),
+    /// Nothing: they are of no stated form.
+    Usage,
+}
