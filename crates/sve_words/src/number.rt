@@ -8,7 +8,6 @@ use itoa::Buffer;
 pub const MAX_BUDGET: u32 = 100_000_000;
 
 /// The number of steps that the text writes in decimal digits, without sign or leading zero, from 1 to the most.
-
 pub(crate) fn number(text: &str) -> Option<u32>
     ensures { result ≡ number_of text.now }
 {
