@@ -1,0 +1,4 @@
+pub mod Earlier
+pub mod Written
+pub mod TypeOf
+pub mod Nodes
