@@ -1,0 +1,16 @@
+//! A table of rows of constant expressions: their sizes, signs and values, or their first faults, and how many nodes they have. Each
+//! line of the input is answered by one line: the line itself, `=>`, and what came of it. A line with nothing on it, or that begins
+//! with `#`, is answered by itself. `no such row` is the answer to a line of no form.
+#![tactic(auto)]
+
+mod constants;
+mod nest;
+mod outcome;
+
+use constants::Constants;
+use std::io;
+use sve_row::answer_lines;
+
+fn main(rt: HostRuntime) -> io::Result<()> {
+    answer_lines(&rt, &Constants)
+}
