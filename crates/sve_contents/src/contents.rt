@@ -1,0 +1,154 @@
+ghost use Rattle.std.specs.Prelude.{◌≡◌, IfOk, Some};
+ghost use Rattle.sve_contents.specs.Reading.{announcing_in, declaration_entering, declaring_in, empty_contents, noted, remarked, said, spot_in, with_entry};
+ghost use Rattle.sve_scope.specs.Scopes.{empty_scope};
+
+use std::alloc::Global;
+use sve_bytes::{List, Name, NoMemory};
+use sve_diag::{Code, Note};
+use sve_fault::Fault;
+use sve_scope::{Declared, Entered, Scope, Spot};
+
+/// A scope, as far as its text is read, and what is to be said of that text.
+#[derive(Drop)]
+pub struct Contents {
+    /// The scope. What is said of it stands in its file and chunk.
+    pub scope: Scope,
+    /// What is to be said, in the order of the text.
+    pub notes: List<Note>,
+}
+
+/// A scope into which something of this name came at this token, and how.
+#[derive(Drop)]
+pub(crate) struct Entering {
+    pub(crate) contents: Contents,
+    pub(crate) name: Name,
+    pub(crate) token: u32,
+    pub(crate) entered: Entered,
+}
+
+impl Contents {
+    /// A scope of the text of this chunk, with nothing in it. It takes no memory.
+    pub fn new(alloc: Global, file: Name, chunk: u32) -> Contents
+        ensures { result ≡ empty_contents (empty_scope file chunk) }
+    {
+        Contents {
+            scope: Scope::new(alloc, file, chunk),
+            notes: List::of(Vec::new(alloc)),
+        }
+    }
+
+    /// A note more.
+    fn with_note(self, note: Note) -> Result<Contents, NoMemory>
+        ensures { IfOk result (λ c. c ≡ noted self note) }
+    {
+        let Contents { scope, notes } = self;
+        let mut notes = notes.into_vec();
+        notes.push(note)?;
+        Ok(Contents {
+            scope,
+            notes: List::of(notes),
+        })
+    }
+
+    /// Says this of a name at a token.
+    ///
+    /// # Errors
+    /// For want of memory alone.
+    pub fn remarked(self, token: u32, code: Code, name: Name) -> Result<Contents, NoMemory>
+        ensures { IfOk result (λ c. c ≡ remarked self token code (Some name)) }
+    {
+        let note = Note {
+            file: self.scope.file.copy()?,
+            chunk: self.scope.chunk,
+            token,
+            code,
+            arg: Some(name),
+        };
+        self.with_note(note)
+    }
+
+    /// Says what is to be said of a fault.
+    ///
+    /// # Errors
+    /// For want of memory alone.
+    pub fn said(self, fault: Fault) -> Result<Contents, NoMemory>
+        ensures { IfOk result (λ c. c ≡ said self fault) }
+    {
+        match fault.note(&self.scope.file, self.scope.chunk)? {
+            Some(note) => self.with_note(note),
+            None => Ok(self),
+        }
+    }
+
+    /// How a declaration came in: a second one of its name is said (N02), and one whose name is imported (N07).
+    fn with_entry(entering: Entering) -> Result<Contents, NoMemory>
+        ensures { IfOk result (λ c. c ≡ with_entry entering.contents entering.token entering.name entering.entered) }
+    {
+        let Entering {
+            contents,
+            name,
+            token,
+            entered,
+        } = entering;
+        match entered {
+            Entered::New => Ok(contents),
+            Entered::Again => contents.remarked(token, Code::N02, name),
+            Entered::Clashing => contents.remarked(token, Code::N07, name),
+        }
+    }
+
+    /// A declaration more in the scope, and how it came in.
+    fn with_declaration(self, declared: Declared) -> Result<Entering, NoMemory>
+        ensures { IfOk result (λ e. e ≡ declaration_entering self declared) }
+    {
+        let name = declared.name.copy()?;
+        let token = declared.at.token;
+        let mut contents = self;
+        let entered = contents.scope.declare(declared)?;
+        Ok(Entering {
+            contents,
+            name,
+            token,
+            entered,
+        })
+    }
+
+    /// A declaration more (IEEE 1800-2017, 3.13 and 26.3). Of two of one name the first stays, and the second is said (N02); one of
+    /// a name that is imported one by one, or that a use has found through an import of all names of a package, is said (N07).
+    ///
+    /// # Errors
+    /// For want of memory alone.
+    pub fn declared(self, declared: Declared) -> Result<Contents, NoMemory>
+        ensures { IfOk result (λ c. c ≡ declaring_in self declared) }
+    {
+        let entering = self.with_declaration(declared)?;
+        Contents::with_entry(entering)
+    }
+
+    /// A declaration more that the text has further on, which is seen in the whole scope (23.9): a function, an instance or a generate
+    /// block. Nothing is said of it before the text comes to it.
+    ///
+    /// # Errors
+    /// For want of memory alone.
+    pub fn announced(self, declared: Declared) -> Result<Contents, NoMemory>
+        ensures { IfOk result (λ c. c ≡ announcing_in self declared) }
+    {
+        let mut contents = self;
+        contents.scope.announce(declared)?;
+        Ok(contents)
+    }
+
+    /// A token of its text.
+    ///
+    /// # Errors
+    /// For want of memory alone.
+    pub fn spot(&self, token: u32) -> Result<Spot, NoMemory>
+        ensures { IfOk result (λ s. s ≡ spot_in self.now token) }
+    {
+        Ok(Spot {
+            file: self.scope.file.copy()?,
+            chunk: self.scope.chunk,
+            token,
+        })
+    }
+}
