@@ -1,0 +1,3 @@
+mod Looped
+mod Adding
+pub mod Calls
