@@ -8,7 +8,6 @@ use Rattle.sve_table.proofs.Added.{item_of-with_items, same_name}
 use Rattle.sve_scope.specs.declared.declared.Declared.{Declared}
 use Rattle.sve_scope.specs.Declarations.{declared_name}
 use Rattle.sve_scope.specs.Scopes.{declaration_of, itself}
-use Rattle.sve_tree.specs.declared.element.UnitItem.{UnitItem}
 use Rattle.sve_tree.specs.declared.token_word.Word.{Word}
 use Rattle.sve_heading.specs.declared.heading.Heading.{Heading}
 use Rattle.sve_heading.specs.Items.{headings}
