@@ -10,7 +10,6 @@ use sve_io::Halt;
 use sve_spec::Spec;
 
 /// The body of a specialization, or that it costs more than was allowed.
-#[derive(Drop)]
 pub enum Body {
     /// The body, and what it costs: a count of items, declarations, connections and nodes of constant expressions.
     Done {
@@ -21,6 +20,15 @@ pub enum Body {
     },
     /// It costs more.
     Over,
+}
+
+impl Drop for Body {
+    fn drop(self) {
+        match self {
+            Body::Done { facts: _, cost: _ } => {}
+            Body::Over => {}
+        }
+    }
 }
 
 /// Where bodies come from. What reads through it is proved over any such object: over one that elaborates each body anew, over one

@@ -10,7 +10,6 @@ use sve_types::Value;
 
 /// A scope of a body: that of the module, the interface or the package itself, or of a generate block (IEEE 1800-2017, 23.9 and
 /// clause 27).
-#[derive(Drop)]
 pub struct BodyScope {
     /// Its path from the body, which for the body's own scope has no step.
     pub path: Path,
@@ -18,8 +17,13 @@ pub struct BodyScope {
     pub scope: Scope,
 }
 
+impl Drop for BodyScope {
+    fn drop(self) {
+        let BodyScope { path: _, scope: _ } = self;
+    }
+}
+
 /// A parameter that an instance may override, with its final type and value (6.20 and 23.10).
-#[derive(Drop)]
 pub struct ParameterValue {
     /// Its name.
     pub name: Name,
@@ -29,8 +33,17 @@ pub struct ParameterValue {
     pub value: Value,
 }
 
+impl Drop for ParameterValue {
+    fn drop(self) {
+        let ParameterValue {
+            name: _,
+            ty: _,
+            value: _,
+        } = self;
+    }
+}
+
 /// A port (23.2.2).
-#[derive(Drop)]
 pub struct Port {
     /// Its name.
     pub name: Name,
@@ -46,8 +59,20 @@ pub struct Port {
     pub token: u32,
 }
 
+impl Drop for Port {
+    fn drop(self) {
+        let Port {
+            name: _,
+            direction: _,
+            net: _,
+            ty: _,
+            face: _,
+            token: _,
+        } = self;
+    }
+}
+
 /// An instance in a body (23.3).
-#[derive(Drop)]
 pub struct Child {
     /// Its path from the body.
     pub path: Path,
@@ -59,8 +84,18 @@ pub struct Child {
     pub unconnected: List<Name>,
 }
 
+impl Drop for Child {
+    fn drop(self) {
+        let Child {
+            path: _,
+            spec: _,
+            token: _,
+            unconnected: _,
+        } = self;
+    }
+}
+
 /// A hierarchical name in a body (23.6), which is resolved once all bodies are known.
-#[derive(Drop)]
 pub struct HierarchicalUse {
     /// The path, from the body, of the scope in which it is used.
     pub scope: Path,
@@ -70,8 +105,17 @@ pub struct HierarchicalUse {
     pub token: u32,
 }
 
+impl Drop for HierarchicalUse {
+    fn drop(self) {
+        let HierarchicalUse {
+            scope: _,
+            name: _,
+            token: _,
+        } = self;
+    }
+}
+
 /// A net that is declared by its use (6.10).
-#[derive(Drop)]
 pub struct ImplicitNet {
     /// The path, from the body, of the scope in which it is declared.
     pub scope: Path,
@@ -81,8 +125,17 @@ pub struct ImplicitNet {
     pub token: u32,
 }
 
+impl Drop for ImplicitNet {
+    fn drop(self) {
+        let ImplicitNet {
+            scope: _,
+            name: _,
+            token: _,
+        } = self;
+    }
+}
+
 /// What is found of a package, or of a specialization of a module or an interface.
-#[derive(Drop)]
 pub struct Facts {
     /// Its scopes: its own, then those of its generate blocks in the order of its text. Where a package has no round there is none.
     pub scopes: List<BodyScope>,
@@ -98,6 +151,20 @@ pub struct Facts {
     pub nets: List<ImplicitNet>,
     /// What is to be said of it, in the order of its definition.
     pub notes: List<Note>,
+}
+
+impl Drop for Facts {
+    fn drop(self) {
+        let Facts {
+            scopes: _,
+            params: _,
+            ports: _,
+            children: _,
+            hierarchical: _,
+            nets: _,
+            notes: _,
+        } = self;
+    }
 }
 
 impl Facts {

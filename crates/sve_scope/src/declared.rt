@@ -8,7 +8,6 @@ use sve_bytes::{Name, NoMemory};
 use sve_table::Named;
 
 /// A declaration of a name in a scope.
-#[derive(Drop)]
 pub struct Declared {
     /// The name.
     pub name: Name,
@@ -19,6 +18,17 @@ pub struct Declared {
     /// The number of the first token of that chunk that sees it (IEEE 1800-2017, 6.5): a parameter is seen behind its value, a
     /// variable or a net from its own name on.
     pub from: u32,
+}
+
+impl Drop for Declared {
+    fn drop(self) {
+        let Declared {
+            name: _,
+            what: _,
+            at: _,
+            from: _,
+        } = self;
+    }
 }
 
 impl Declared {

@@ -10,7 +10,6 @@ use sve_bytes::Name;
 use sve_table::{Named, Table};
 
 /// An import of one name of a package, as `import p::x` (IEEE 1800-2017, 26.3).
-#[derive(Drop)]
 pub struct Explicit {
     /// The name.
     pub name: Name,
@@ -20,13 +19,32 @@ pub struct Explicit {
     pub at: Spot,
 }
 
+impl Drop for Explicit {
+    fn drop(self) {
+        let Explicit {
+            name: _,
+            from: _,
+            at: _,
+        } = self;
+    }
+}
+
 /// An import of all names of a package, as `import p::*` (26.3), with the names that the package has. A clause sees the names
 /// themselves, which all imports of the package share.
-#[derive(Drop)]
 pub struct Wildcard {
     from: Name,
     names: Arc<Table<Name>>,
     at: Spot,
+}
+
+impl Drop for Wildcard {
+    fn drop(self) {
+        let Wildcard {
+            from: _,
+            names: _,
+            at: _,
+        } = self;
+    }
 }
 
 impl Model for Wildcard {

@@ -9,7 +9,6 @@ use sve_table::Table;
 
 /// A scope: the chunk of its text, what is declared in it, and what is imported into it. Each table has one item of a name, the
 /// first that came.
-#[derive(Drop)]
 pub struct Scope {
     /// The file of its text, and of the uses in that text. For a compilation unit it is that of the element that looks.
     pub file: Name,
@@ -26,6 +25,20 @@ pub struct Scope {
     pub wild: Table<Wildcard>,
     /// The names that uses have found through the imports of all names of a package: there the import has taken effect.
     pub taken: Table<Name>,
+}
+
+impl Drop for Scope {
+    fn drop(self) {
+        let Scope {
+            file: _,
+            chunk: _,
+            declared: _,
+            ahead: _,
+            explicit: _,
+            wild: _,
+            taken: _,
+        } = self;
+    }
 }
 
 /// How a declaration, or an import of one name, comes into a scope.

@@ -7,7 +7,6 @@ use sve_bytes::{Name, NoMemory};
 use sve_types::Value;
 
 /// What a name of a constant stands for.
-#[derive(Drop)]
 pub struct Constant {
     /// Its type, where it is known: a constant with neither a type of its own nor a value has none.
     pub ty: Option<SharedType>,
@@ -15,8 +14,13 @@ pub struct Constant {
     pub value: Option<Value>,
 }
 
+impl Drop for Constant {
+    fn drop(self) {
+        let Constant { ty: _, value: _ } = self;
+    }
+}
+
 /// What an interface port is connected to: an interface, and perhaps one of its modports (IEEE 1800-2017, 25.3 and 25.5).
-#[derive(Drop)]
 pub struct FaceName {
     /// The name of the interface.
     pub interface: Name,
@@ -24,8 +28,16 @@ pub struct FaceName {
     pub modport: Option<Name>,
 }
 
+impl Drop for FaceName {
+    fn drop(self) {
+        let FaceName {
+            interface: _,
+            modport: _,
+        } = self;
+    }
+}
+
 /// What a declared name stands for.
-#[derive(Drop)]
 pub enum What {
     /// A net, of this type (IEEE 1800-2017, 6.7).
     Net(SharedType),
@@ -51,6 +63,25 @@ pub enum What {
     Modport,
     /// An interface port (25.3).
     InterfacePort(FaceName),
+}
+
+impl Drop for What {
+    fn drop(self) {
+        match self {
+            What::Net(_) => {}
+            What::Variable(_) => {}
+            What::Parameter(_) => {}
+            What::LocalParameter(_) => {}
+            What::Genvar => {}
+            What::Function(_) => {}
+            What::TypeName(_) => {}
+            What::EnumName(_) => {}
+            What::Instance => {}
+            What::Block => {}
+            What::Modport => {}
+            What::InterfacePort(_) => {}
+        }
+    }
 }
 
 fn copy_of_type(ty: &Option<SharedType>) -> Result<Option<SharedType>, NoMemory>
