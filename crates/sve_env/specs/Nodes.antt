@@ -1,6 +1,6 @@
 -- The nodes of expressions (own): a literal, a name, and each application of an operator, a select, a concatenation, a cast or a
 -- function is one. What calls count is added.
-use Rattle.std.specs.Prelude.{ℕ, ◌+◌, List, [], ◌∷◌}
+use Rattle.std.specs.Prelude.{ℕ, ◌+◌, Bool, true, false, List, [], ◌∷◌}
 use Rattle.std.specs.Global.{Vec}
 use Rattle.sve_tree.specs.declared.row.Row.{Row}
 use Rattle.sve_tree.specs.declared.word.ScopedName.{ScopedName}
@@ -199,3 +199,19 @@ value_range_count m (x ∷ xs) = value_range_nodes m x + value_range_count m xs
 unfoldable pub pattern_item_count : Told → List PatternItem → ℕ
 pattern_item_count m [] = 0
 pattern_item_count m (x ∷ xs) = pattern_item_nodes m x + pattern_item_count m xs
+
+-- the forms of several operands, and those with a row of operands, of dimensions, of arguments or of selects
+abbrev pub has_operands : Expr → Bool
+has_operands (is_expr.ParenthesizedCast' opening _ value closing apostrophe cast_opening _ cast_value cast_closing) = true
+has_operands (is_expr.Operations' _ first _ operations) = true
+has_operands (is_expr.Conditional' _ condition question _ chosen colon _ otherwise) = true
+has_operands (is_expr.Implication' _ l operator _ r) = true
+has_operands _ = false
+
+abbrev pub has_rows : Expr → Bool
+has_rows (is_expr.Replication' opening _ count inner_opening _ operands commas inner_closing closing _ selects) = true
+has_rows (is_expr.Concatenation' opening _ operands commas closing _ selects) = true
+has_rows (is_expr.TypeCast' keyword sign _ dimensions apostrophe opening _ value closing) = true
+has_rows (is_expr.SystemName' name _ selects) = true
+has_rows (is_expr.SystemCall' name opening _ arguments commas closing _ selects) = true
+has_rows _ = false

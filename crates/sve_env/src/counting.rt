@@ -1,11 +1,11 @@
-ghost use Rattle.std.specs.Prelude.{◌≡◌, ◌+◌};
+ghost use Rattle.std.specs.Prelude.{◌≡◌, ◌+◌, true};
 ghost use Rattle.sve_fault.specs.Counts.{IsFuel, Counts};
-ghost use Rattle.sve_env.specs.Nodes.{nodes, range_nodes, dimension_nodes, select_nodes, argument_nodes, postfix_nodes, operation_nodes, value_range_nodes, pattern_item_nodes, nodes_of_expressions, nodes_of_range_selects, nodes_of_dimensions, nodes_of_selects, nodes_of_arguments, nodes_of_postfixes, nodes_of_operations, nodes_of_value_ranges, nodes_of_pattern};
+ghost use Rattle.sve_env.specs.Nodes.{has_operands, has_rows, nodes, range_nodes, dimension_nodes, select_nodes, argument_nodes, postfix_nodes, operation_nodes, value_range_nodes, pattern_item_nodes, nodes_of_expressions, nodes_of_range_selects, nodes_of_dimensions, nodes_of_selects, nodes_of_arguments, nodes_of_postfixes, nodes_of_operations, nodes_of_value_ranges, nodes_of_pattern};
 
 use crate::env::Env;
 use sve_fault::{Fuel, Halted, spend};
 use sve_tree::{
-    Arg, ArgumentList, Dimension, Expr, Operation, Pattern, PatternItem, Postfix, Range,
+    Arg, ArgumentList, Cast, Dimension, Expr, Operation, Pattern, PatternItem, Postfix, Range,
     RangeSelect, Row, ScopedName, Select, ValueRange,
 };
 
@@ -22,18 +22,106 @@ pub fn visit<E: Env>(expr: &Expr, env: &E, fuel: &mut Fuel) -> Result<(), Halted
         Expr::Based { .. } => spend(fuel),
         Expr::Unbased { .. } => spend(fuel),
         Expr::Text { .. } => spend(fuel),
+        Expr::Parenthesized { inner } => visit(&inner.value, env, fuel),
+        Expr::Pattern { pattern } => visit_pattern(pattern, env, fuel),
+        Expr::Type { dimensions, .. } => visit_dimensions(dimensions, env, fuel),
         Expr::SizeCast { cast, .. } => {
             spend(fuel)?;
-            spend(fuel)?;
-            visit(&cast.value.value, env, fuel)
+            visit_cast(cast, env, fuel)
         }
-        Expr::Parenthesized { inner } => visit(&inner.value, env, fuel),
+        Expr::SignCast { cast, .. } => visit_cast(cast, env, fuel),
+        Expr::Name { name, postfixes } => {
+            spend(fuel)?;
+            visit_postfixes(*name, postfixes, env, fuel)
+        }
+        Expr::Unary { operand, .. } => {
+            spend(fuel)?;
+            visit(operand, env, fuel)
+        }
+        Expr::ParenthesizedCast { .. } => visit_operands(expr, env, fuel),
+        Expr::Operations { .. } => visit_operands(expr, env, fuel),
+        Expr::Conditional { .. } => visit_operands(expr, env, fuel),
+        Expr::Implication { .. } => visit_operands(expr, env, fuel),
+        Expr::Replication { .. } => visit_rows(expr, env, fuel),
+        Expr::Concatenation { .. } => visit_rows(expr, env, fuel),
+        Expr::TypeCast { .. } => visit_rows(expr, env, fuel),
+        Expr::SystemName { .. } => visit_rows(expr, env, fuel),
+        Expr::SystemCall { .. } => visit_rows(expr, env, fuel),
+    }
+}
+
+/// The nodes of a cast beside its size: one, and those of what is cast.
+#[cycle(visit)]
+fn visit_cast<E: Env>(cast: &Cast, env: &E, fuel: &mut Fuel) -> Result<(), Halted>
+    requires { IsFuel fuel.old }
+    ensures { Counts result fuel.old fuel.new (1 + nodes (E.told env.now) cast.now.value.value.value) }
+{
+    spend(fuel)?;
+    visit(&cast.value.value, env, fuel)
+}
+
+/// The nodes of a form of several operands.
+#[cycle(visit)]
+#[tactic(auto, unfolding(crate::specs::Nodes::nodes))]
+fn visit_operands<E: Env>(expr: &Expr, env: &E, fuel: &mut Fuel) -> Result<(), Halted>
+    requires fuel { IsFuel fuel.old }
+    requires operands { has_operands expr.now ≡ true }
+    ensures { Counts result fuel.old fuel.new (nodes (E.told env.now) expr.now) }
+{
+    match expr {
         Expr::ParenthesizedCast { size, cast } => {
-            spend(fuel)?;
             visit(&size.value, env, fuel)?;
-            visit(&cast.value.value, env, fuel)
+            visit_cast(cast, env, fuel)
         }
-        Expr::Pattern { pattern } => visit_pattern(pattern, env, fuel),
+        Expr::Operations { first, operations } => {
+            visit(first, env, fuel)?;
+            visit_operations(operations, env, fuel)
+        }
+        Expr::Conditional {
+            condition,
+            chosen,
+            otherwise,
+            ..
+        } => {
+            spend(fuel)?;
+            visit(condition, env, fuel)?;
+            visit(chosen, env, fuel)?;
+            visit(otherwise, env, fuel)
+        }
+        Expr::Implication { left, right, .. } => {
+            spend(fuel)?;
+            visit(left, env, fuel)?;
+            visit(right, env, fuel)
+        }
+        Expr::Decimal { .. }
+        | Expr::Sized { .. }
+        | Expr::SizeCast { .. }
+        | Expr::Based { .. }
+        | Expr::Unbased { .. }
+        | Expr::Text { .. }
+        | Expr::Parenthesized { .. }
+        | Expr::Pattern { .. }
+        | Expr::Replication { .. }
+        | Expr::Concatenation { .. }
+        | Expr::SignCast { .. }
+        | Expr::Type { .. }
+        | Expr::TypeCast { .. }
+        | Expr::SystemName { .. }
+        | Expr::SystemCall { .. }
+        | Expr::Name { .. }
+        | Expr::Unary { .. } => unreachable!(),
+    }
+}
+
+/// The nodes of a form with a row of operands, of dimensions, of arguments or of selects.
+#[cycle(visit)]
+#[tactic(auto, unfolding(crate::specs::Nodes::nodes))]
+fn visit_rows<E: Env>(expr: &Expr, env: &E, fuel: &mut Fuel) -> Result<(), Halted>
+    requires fuel { IsFuel fuel.old }
+    requires rows { has_rows expr.now ≡ true }
+    ensures { Counts result fuel.old fuel.new (nodes (E.told env.now) expr.now) }
+{
+    match expr {
         Expr::Replication {
             count,
             operands,
@@ -54,11 +142,6 @@ pub fn visit<E: Env>(expr: &Expr, env: &E, fuel: &mut Fuel) -> Result<(), Halted
             visit_all(operands, env, fuel)?;
             visit_range_selects(selects, env, fuel)
         }
-        Expr::SignCast { cast, .. } => {
-            spend(fuel)?;
-            visit(&cast.value.value, env, fuel)
-        }
-        Expr::Type { dimensions, .. } => visit_dimensions(dimensions, env, fuel),
         Expr::TypeCast {
             dimensions,
             cast,
@@ -81,34 +164,22 @@ pub fn visit<E: Env>(expr: &Expr, env: &E, fuel: &mut Fuel) -> Result<(), Halted
             visit_arguments(arguments, env, fuel)?;
             visit_selects(selects, env, fuel)
         }
-        Expr::Name { name, postfixes } => {
-            spend(fuel)?;
-            visit_postfixes(*name, postfixes, env, fuel)
-        }
-        Expr::Unary { operand, .. } => {
-            spend(fuel)?;
-            visit(operand, env, fuel)
-        }
-        Expr::Operations { first, operations } => {
-            visit(first, env, fuel)?;
-            visit_operations(operations, env, fuel)
-        }
-        Expr::Conditional {
-            condition,
-            chosen,
-            otherwise,
-            ..
-        } => {
-            spend(fuel)?;
-            visit(condition, env, fuel)?;
-            visit(chosen, env, fuel)?;
-            visit(otherwise, env, fuel)
-        }
-        Expr::Implication { left, right, .. } => {
-            spend(fuel)?;
-            visit(left, env, fuel)?;
-            visit(right, env, fuel)
-        }
+        Expr::Decimal { .. }
+        | Expr::Sized { .. }
+        | Expr::SizeCast { .. }
+        | Expr::Based { .. }
+        | Expr::Unbased { .. }
+        | Expr::Text { .. }
+        | Expr::Parenthesized { .. }
+        | Expr::ParenthesizedCast { .. }
+        | Expr::Pattern { .. }
+        | Expr::SignCast { .. }
+        | Expr::Type { .. }
+        | Expr::Name { .. }
+        | Expr::Unary { .. }
+        | Expr::Operations { .. }
+        | Expr::Conditional { .. }
+        | Expr::Implication { .. } => unreachable!(),
     }
 }
 
@@ -275,10 +346,7 @@ fn visit_postfix<E: Env>(
     match postfix {
         Postfix::Select { select } => visit_select(select, env, fuel),
         Postfix::Call { arguments } => visit_call(name, arguments, env, fuel),
-        Postfix::Cast { cast } => {
-            spend(fuel)?;
-            visit(&cast.value.value, env, fuel)
-        }
+        Postfix::Cast { cast } => visit_cast(cast, env, fuel),
         Postfix::Pattern { pattern } => visit_pattern(pattern, env, fuel),
     }
 }

@@ -1,6 +1,6 @@
-ghost use Rattle.std.specs.Prelude.{◌≡◌};
+ghost use Rattle.std.specs.Prelude.{◌≡◌, IfErr};
 ghost use Rattle.sve_fault.specs.Counts.{IsFuel, Counts};
-ghost use Rattle.sve_fault.specs.declared.fuel.Halted.TheVariants.{NoMemory};
+ghost use Rattle.sve_fault.specs.declared.fuel.Halted.TheVariants.{NoMemory, Over};
 
 use std::alloc::AllocError;
 
@@ -31,10 +31,12 @@ impl From<AllocError> for Halted {
     }
 }
 
-/// One more node. It refuses where there would be more than the most.
+/// One more node. It refuses where there would be more than the most, and then counts nothing.
 pub fn spend(fuel: &mut Fuel) -> Result<(), Halted>
     requires { IsFuel fuel.old }
-    ensures { Counts result fuel.old fuel.new 1 }
+    ensures counts { Counts result fuel.old fuel.new 1 }
+    ensures over { IfErr result (λ halted. halted ≡ Over) }
+    ensures stays { IfErr result (λ _. fuel.new ≡ fuel.old) }
 {
     if fuel.used < fuel.most {
         fuel.used += 1;

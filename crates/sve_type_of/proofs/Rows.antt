@@ -1,4 +1,4 @@
--- Rows of dimensions, of names and of members as lists, and the loops over them.
+-- Rows of names and of members as lists, and the loops over them.
 use Rattle.std.specs.Global.{Vec}
 use Rattle.std.proofs.Common.{◌≡◌, ◌<◌, ◌≤◌, ℕ, ◌+◌, List, length, drop, get_or, Option, refl, ap, sym, ◌∙◌}
 use Rattle.std.proofs.lemmas.List.{drop_more}
@@ -6,48 +6,19 @@ use Rattle.std.proofs.Math.ListN.{drop_of_length-le}
 use Rattle.sve_tree.specs.declared.word.Mark.{Mark}
 use Rattle.sve_tree.specs.declared.word.Sign.{Sign}
 use Rattle.sve_tree.specs.declared.expression.Dimension.{Dimension}
-use Rattle.sve_tree.specs.declared.data_type.EnumName.{EnumName}
 use Rattle.sve_tree.specs.declared.data_type.Members.{Members}
 use Rattle.sve_tree.specs.declared.data_type.Structure.{Structure, out-Structure, roll-Structure, roll-out-Structure, Row_of-Members, end_of-Members, more_of-Members, items-the_row-Members}
 use Rattle.sve_tree.specs.declared.data_type.DataType.TheBlock.{hidden-the_row-Members-0, items_hidden-the_row-Members-0}
 use denote.Hole.Carrier.{roll}
 use Rattle.sve_types.specs.DataType.{DataType}
-use Rattle.sve_type_rule.specs.Ranges.{Dimensioned, ranged}
 use Rattle.sve_type_rule.specs.Members.{Membered, no_members, member_after}
 use Rattle.sve_fault.specs.declared.fault.Fault.{Fault}
 use Rattle.sve_env.specs.Nodes.{dimension_count}
 use Rattle.sve_env.specs.Told.{Told}
-use Rattle.sve_form.specs.Tokens.{opening_of}
-use Rattle.sve_measure.specs.Constants.{range_of}
-use Rattle.sve_type_of.specs.Written.{Listing, ranges_behind, name_after, names_behind}
 use Rattle.sve_type_of.specs.TypeOf.{named_members, members_with, members_after, members_from, members_behind, members_of_structure, referred, structure_typed, structure_over}
-use Rattle.sve_type_of.specs.Nodes.{value_nodes, name_count, type_nodes, structure_nodes, members_row, members_count, nodes_of_members}
+use Rattle.sve_type_of.specs.Nodes.{type_nodes, structure_nodes, members_row, members_count, nodes_of_members}
 
 -- ---- loops
-
-pub ranges_step : (m : Told) (xs : List Dimension) (i : ℕ) (x : Dimension) (before : Dimensioned) → i < length xs → x ≡ get_or xs i x → ranges_behind m (ranged (opening_of x) before (range_of m x)) (drop (i + 1) xs) ≡ ranges_behind m before (drop i xs)
-unfolding ranges_behind
-ranges_step m xs i x before h e = rw (drop_more xs i x h, ← e) refl
-
-pub ranges_end : (m : Told) (xs : List Dimension) (i : ℕ) (before : Dimensioned) → length xs ≤ i → ranges_behind m before (drop i xs) ≡ before
-unfolding ranges_behind
-ranges_end m xs i before h = rw (drop_of_length-le xs h) refl
-
-pub names_step : (m : Told) (base : DataType) (xs : List EnumName) (i : ℕ) (x : EnumName) (before : Listing) → i < length xs → x ≡ get_or xs i x → names_behind m base (name_after m base before x) (drop (i + 1) xs) ≡ names_behind m base before (drop i xs)
-unfolding names_behind
-names_step m base xs i x before h e = rw (drop_more xs i x h, ← e) refl
-
-pub names_end : (m : Told) (base : DataType) (xs : List EnumName) (i : ℕ) (before : Listing) → length xs ≤ i → names_behind m base before (drop i xs) ≡ before
-unfolding names_behind
-names_end m base xs i before h = rw (drop_of_length-le xs h) refl
-
-pub name_count_step : (m : Told) (xs : List EnumName) (i : ℕ) (x : EnumName) → i < length xs → x ≡ get_or xs i x → name_count m (drop i xs) ≡ value_nodes m x.value + name_count m (drop (i + 1) xs)
-unfolding name_count
-name_count_step m xs i x h e = rw (drop_more xs i x h, ← e) refl
-
-pub name_count_end : (m : Told) (xs : List EnumName) (i : ℕ) → length xs ≤ i → name_count m (drop i xs) ≡ 0
-unfolding name_count
-name_count_end m xs i h = rw (drop_of_length-le xs h) refl
 
 pub named_members_step : (m : Told) (t : DataType) (xs : List ℕ) (i x : ℕ) (before : Membered) → i < length xs → x ≡ get_or xs i 0 → named_members m t (member_after x (m.text x) t before) (drop (i + 1) xs) ≡ named_members m t before (drop i xs)
 unfolding named_members

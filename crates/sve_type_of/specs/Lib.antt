@@ -1,4 +1,3 @@
-pub mod Earlier
 pub mod Written
 pub mod TypeOf
 pub mod Nodes

@@ -27,7 +27,8 @@ use Rattle.sve_form.specs.Keywords.{sign_or}
 use Rattle.sve_types.specs.Dimensions.{element_count}
 use Rattle.sve_types.specs.Widths.{counted}
 use Rattle.sve_type_of.specs.declared.said.Typed.{Typed}
-use Rattle.sve_type_of.specs.Written.{ranges_behind, implicit_typed, atom_typed, vector_typed, named_typed, enumeration_typed}
+use Rattle.sve_simple_type.specs.Simple.{ranges_behind, implicit_typed, atom_typed, vector_typed, named_typed}
+use Rattle.sve_enum_type.specs.Enumerations.{enumeration_typed}
 
 -- the names of members of one type
 unfoldable pub named_members : Told → types.DataType → Membered → List ℕ → Membered

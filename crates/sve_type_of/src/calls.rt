@@ -5,8 +5,6 @@ ghost use Rattle.sve_type_rule.specs.Outcomes.{outcome};
 ghost use Rattle.sve_type_of.specs.TypeOf.{IsTyped, referred, declared, unpacked_over};
 ghost use Rattle.sve_type_of.specs.Nodes.{type_nodes, declared_nodes};
 
-use crate::keyword::implicit_typed;
-use crate::ranges::ranges;
 use crate::said::{Typed, notes_in};
 use crate::written::referred;
 use std::alloc::Global;
@@ -14,6 +12,7 @@ use sve_bytes::NoMemory;
 use sve_env::Env;
 use sve_fault::{Fuel, Halted};
 use sve_select::element_count;
+use sve_simple_type::{implicit_typed, ranges};
 use sve_tree::{DeclaredType, Dimension, TypeRef};
 use sve_type_rule::{Typed as Outcome, no_ranges, unpacked};
 use sve_types::Ty;

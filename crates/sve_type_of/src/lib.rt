@@ -3,11 +3,6 @@
 #![tactic(auto)]
 
 mod calls;
-mod earlier;
-mod enumeration;
-mod keyword;
-mod naming;
-mod ranges;
 mod said;
 mod written;
 

@@ -7,15 +7,13 @@ ghost use Rattle.sve_type_rule.specs.Members.{membered};
 ghost use Rattle.sve_type_of.specs.TypeOf.{named_members, structured, written, structure_over, structure_typed, members_after, members_of_structure, referred};
 ghost use Rattle.sve_type_of.specs.Nodes.{written_nodes, structure_nodes, nodes_of_members, type_nodes};
 
-use crate::enumeration::enumeration_typed;
-use crate::keyword::{atom_typed, sign_or, vector_typed};
-use crate::naming::named_typed;
-use crate::ranges::ranges;
 use std::alloc::Global;
 use std::sync::Arc;
 use sve_bytes::{List, Name, NoMemory};
+use sve_enum_type::enumeration_typed;
 use sve_env::Env;
 use sve_fault::{Fault, Fuel, Halted};
+use sve_simple_type::{atom_typed, named_typed, ranges, sign_or, vector_typed};
 use sve_tree::{DataType, Dimension, Mark, Members as WrittenMembers, Sign, Structure, TypeRef};
 use sve_type_rule::{Members, Ranges, Typed, member_after, no_members, no_ranges, plain};
 use sve_types::{Base, Ty};

@@ -7,7 +7,7 @@ use Rattle.sve_measure.proofs.+measure.Goals as goal
 pub operands::bare-returns-clause-count : goal.operands::bare-returns-clause-count
 operands::bare-returns-clause-count g t c =
     counts_then c.replicated.result _ _ _ _ 1 (nodes (g.E.Env.told c.args.env.now) c.in-Replication.count.value) (nodes_of_expressions (g.E.Env.told c.args.env.now) c.in-Replication.operands) _
-    c.in_ok-spend-in-Replication.ensures
+    c.in_ok-spend-in-Replication.ensures.counts
     (rw c.deref.ensures at c.in_ok-number-in-Replication.ensures.count)
     c.replicated.ensures.count
     (ap (nodes (g.E.Env.told c.args.env.now)) c.in-Replication.is

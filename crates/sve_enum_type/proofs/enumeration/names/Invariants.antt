@@ -1,8 +1,8 @@
 use Rattle.std.proofs.Common.{◌≡◌, ◌≤◌, drop}
 use Rattle.sve_fault.specs.Counts.{counted_on}
-use Rattle.sve_type_of.specs.Written.{listing, names_behind}
-use Rattle.sve_type_of.specs.Nodes.{name_count}
-use Rattle.sve_type_of.proofs.enumeration.names.Given as goal
+use Rattle.sve_enum_type.specs.Enumerations.{listing, names_behind}
+use Rattle.sve_enum_type.specs.Nodes.{name_count}
+use Rattle.sve_enum_type.proofs.enumeration.names.Given as goal
 
 abbrev pub invariant-names : goal.invariant-names
 invariant-names g l = record {

@@ -3,9 +3,9 @@ ghost use Rattle.std.specs.Result.{result_map_both};
 ghost use Rattle.sve_fault.specs.Counts.{IsFuel, Counts};
 ghost use Rattle.sve_env.specs.Nodes.{dimension_count};
 ghost use Rattle.sve_type_rule.specs.Outcomes.{outcome, behind};
-ghost use Rattle.sve_type_of.specs.Written.{wrong_by, no_type, type_named, name_behind, named_typed};
+ghost use Rattle.sve_simple_type.specs.Simple.{wrong_by, no_type, type_named, name_behind, named_typed};
 
-use crate::ranges::ranges;
+use crate::dimensions::ranges;
 use std::alloc::Global;
 use sve_bytes::NoMemory;
 use sve_diag::Code;
@@ -63,9 +63,10 @@ fn name_behind<E: Env>(
     named(alloc, token, env.text(token), is_plain, faults, ty)
 }
 
-/// A type by its name, with packed dimensions (IEEE 1800-2017, 6.18).
-#[tactic(auto, unfolding(crate::specs::Written::named_typed))]
-pub(crate) fn named_typed<E: Env>(
+/// A type by its name, with packed dimensions (IEEE 1800-2017, 6.18): N11 where the name is no type. It counts the nodes of the
+/// dimensions, and is Over exactly where they pass the most.
+#[tactic(auto, unfolding(crate::specs::Simple::named_typed))]
+pub fn named_typed<E: Env>(
     alloc: Global,
     written: &NamedType,
     faults: Vec<Fault>,

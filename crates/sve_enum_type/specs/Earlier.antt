@@ -13,7 +13,7 @@ use Rattle.sve_fault.specs.declared.fault.Fault.{Fault}
 use Rattle.sve_type_rule.specs.declared.values.Last.{Last}
 use Rattle.sve_type_rule.specs.declared.values.Last.TheVariants as is_last
 use Rattle.sve_env.specs.Told.{Told}
-use Rattle.sve_type_of.specs.declared.earlier.Earlier.{Earlier}
+use Rattle.sve_enum_type.specs.declared.earlier.Earlier.{Earlier}
 
 abbrev pub earlier_name : Earlier → List ℕ
 earlier_name e = e.name

@@ -4,13 +4,10 @@ ghost use Rattle.sve_env.specs.Nodes.{dimension_count};
 ghost use Rattle.sve_type_rule.specs.Ranges.{dimensioned};
 ghost use Rattle.sve_type_rule.specs.Outcomes.{outcome};
 ghost use Rattle.sve_type_rule.specs.Names.{named};
-ghost use Rattle.sve_type_of.specs.Written.{can_be_base, enumerated, base_over, base_of, target_of, listing, name_value, name_after, names_behind, no_name, names_over, enumeration_typed};
-ghost use Rattle.sve_type_of.specs.Nodes.{base_nodes, value_nodes, name_count, enumeration_nodes};
+ghost use Rattle.sve_enum_type.specs.Enumerations.{can_be_base, enumerated, base_over, base_of, target_of, listing, name_value, name_after, names_behind, no_name, names_over, enumeration_typed};
+ghost use Rattle.sve_enum_type.specs.Nodes.{base_nodes, value_nodes, name_count, enumeration_nodes};
 
 use crate::earlier::{Among, Earlier, with_earlier};
-use crate::keyword::{atom_typed, vector_typed};
-use crate::naming::named_typed;
-use crate::ranges::ranges;
 use std::alloc::Global;
 use std::sync::Arc;
 use sve_bytes::{List, Name, NoMemory};
@@ -20,6 +17,7 @@ use sve_fault::{Fault, Fuel, Halted};
 use sve_form::token_of;
 use sve_measure::operand;
 use sve_rule::Target;
+use sve_simple_type::{atom_typed, named_typed, ranges, vector_typed};
 use sve_table::Table;
 use sve_tree::{EnumBase, EnumName, Enumeration};
 use sve_type_rule::{Names, Ranges, Typed, atom, automatic, explicit, no_names, no_ranges};
@@ -134,7 +132,7 @@ fn name_value<E: Env>(
 }
 
 /// A name more.
-#[tactic(auto, unfolding(crate::specs::Written::name_after))]
+#[tactic(auto, unfolding(crate::specs::Enumerations::name_after))]
 fn name_after<E: Env>(
     alloc: Global,
     base: &Ty,
@@ -258,9 +256,10 @@ fn names_over<E: Env>(
     )?)
 }
 
-/// An enumeration (6.19).
-#[tactic(auto, unfolding(crate::specs::Written::enumeration_typed))]
-pub(crate) fn enumeration_typed<E: Env>(
+/// An enumeration (6.19): its base, its names with their values, and its dimensions, with what is wrong behind what is wrong so far. It
+/// counts the nodes of the dimensions and of the values, and is Over exactly where they pass the most.
+#[tactic(auto, unfolding(crate::specs::Enumerations::enumeration_typed))]
+pub fn enumeration_typed<E: Env>(
     alloc: Global,
     written: &Enumeration,
     faults: Vec<Fault>,

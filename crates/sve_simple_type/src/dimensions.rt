@@ -2,7 +2,7 @@ ghost use Rattle.std.specs.Prelude.{◌≡◌, IfOk};
 ghost use Rattle.sve_fault.specs.Counts.{IsFuel, Counts};
 ghost use Rattle.sve_env.specs.Nodes.{dimension_count};
 ghost use Rattle.sve_type_rule.specs.Ranges.{dimensioned};
-ghost use Rattle.sve_type_of.specs.Written.{ranges_behind};
+ghost use Rattle.sve_simple_type.specs.Simple.{ranges_behind};
 
 use std::alloc::Global;
 use sve_env::Env;
@@ -12,9 +12,10 @@ use sve_measure::dimension;
 use sve_tree::Dimension;
 use sve_type_rule::{Ranges, ranged};
 
-/// Dimensions behind others, from the left (IEEE 1800-2017, 7.4).
+/// Dimensions behind others, from the left (IEEE 1800-2017, 7.4). It counts the nodes of their bounds, and is Over exactly where these
+/// pass the most.
 #[tactic(auto, using(crate::proofs::Rows::ranges_step, crate::proofs::Rows::ranges_end, sve_env::proofs::Rows::dimension_count_step, sve_env::proofs::Rows::dimension_count_end))]
-pub(crate) fn ranges<E: Env>(
+pub fn ranges<E: Env>(
     alloc: Global,
     before: Ranges,
     dimensions: &[Dimension],

@@ -2,8 +2,8 @@ use Rattle.std.proofs.Common.{◌≡◌, ◌≤◌, drop}
 use Rattle.sve_fault.specs.Counts.{counted_on}
 use Rattle.sve_type_rule.specs.Ranges.{dimensioned}
 use Rattle.sve_env.specs.Nodes.{dimension_count}
-use Rattle.sve_type_of.specs.Written.{ranges_behind}
-use Rattle.sve_type_of.proofs.ranges.ranges.Given as goal
+use Rattle.sve_simple_type.specs.Simple.{ranges_behind}
+use Rattle.sve_simple_type.proofs.dimensions.ranges.Given as goal
 
 abbrev pub invariant-dimensions : goal.invariant-dimensions
 invariant-dimensions g l = record {

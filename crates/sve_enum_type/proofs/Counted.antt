@@ -22,8 +22,8 @@ use Rattle.sve_tree.specs.declared.expression.PatternItem.TheVariants as is_patt
 use Rattle.sve_types.specs.DataType.{DataType}
 use Rattle.sve_env.specs.Told.{Told}
 use Rattle.sve_env.specs.Nodes.{nodes, range_nodes, operation_nodes, dimension_nodes, select_nodes, postfix_nodes, argument_nodes, value_range_nodes, pattern_item_nodes, expression_row, range_select_row, dimension_row, select_row, postfix_row, operation_row, argument_row, value_range_row, pattern_item_row}
-use Rattle.sve_type_of.specs.Earlier.{told_among}
-use Rattle.sve_type_of.specs.declared.earlier.Earlier.{Earlier}
+use Rattle.sve_enum_type.specs.Earlier.{told_among}
+use Rattle.sve_enum_type.specs.declared.earlier.Earlier.{Earlier}
 
 mutual
   unfolding nodes

@@ -4,9 +4,9 @@ ghost use Rattle.sve_env.specs.Nodes.{dimension_count};
 ghost use Rattle.sve_form.specs.Keywords.{sign_or};
 ghost use Rattle.sve_types.specs.TypeText.{atom_is_signed};
 ghost use Rattle.sve_type_rule.specs.Outcomes.{outcome};
-ghost use Rattle.sve_type_of.specs.Written.{atom_kind, vector_kind, atom_typed, vector_typed, implicit_typed};
+ghost use Rattle.sve_simple_type.specs.Simple.{atom_kind, vector_kind, atom_typed, vector_typed, implicit_typed};
 
-use crate::ranges::ranges;
+use crate::dimensions::ranges;
 use std::alloc::Global;
 use sve_env::Env;
 use sve_fault::{Fault, Fuel, Halted};
@@ -16,7 +16,7 @@ use sve_type_rule::{Typed, atom, no_ranges, vector};
 use sve_types::{Atom, Vec_};
 
 /// The sign that is written, or the one where none is.
-pub(crate) fn sign_or(sign: Option<Mark<Sign>>, signed: bool) -> bool
+pub fn sign_or(sign: Option<Mark<Sign>>, signed: bool) -> bool
     ensures { result ≡ sign_or sign signed }
 {
     match sign {
@@ -54,8 +54,8 @@ fn atom_is_signed(kind: Atom) -> bool
     !matches!(kind, Atom::Time)
 }
 
-/// An integer type with a width of its own (IEEE 1800-2017, 6.11).
-pub(crate) fn atom_typed(alloc: Global, written: AtomType, faults: Vec<Fault>) -> Typed
+/// An integer type with a width of its own (IEEE 1800-2017, 6.11), with what is wrong so far.
+pub fn atom_typed(alloc: Global, written: AtomType, faults: Vec<Fault>) -> Typed
     ensures { outcome result ≡ atom_typed written faults.items }
 {
     let kind = atom_kind(written.keyword.kind);
@@ -63,9 +63,10 @@ pub(crate) fn atom_typed(alloc: Global, written: AtomType, faults: Vec<Fault>) -
     atom(alloc, kind, signed, faults)
 }
 
-/// An integer type of as many bits as its packed dimensions say (6.11).
-#[tactic(auto, unfolding(crate::specs::Written::vector_typed))]
-pub(crate) fn vector_typed<E: Env>(
+/// An integer type of as many bits as its packed dimensions say (6.11). It counts the nodes of these, and is Over exactly where they
+/// pass the most.
+#[tactic(auto, unfolding(crate::specs::Simple::vector_typed))]
+pub fn vector_typed<E: Env>(
     alloc: Global,
     written: &VectorType,
     faults: Vec<Fault>,
@@ -82,9 +83,10 @@ pub(crate) fn vector_typed<E: Env>(
     Ok(vector(alloc, kind, sign_or(written.sign, false), ranges))
 }
 
-/// At most a sign and packed dimensions: bits of four states (6.10 and 6.20.2).
-#[tactic(auto, unfolding(crate::specs::Written::implicit_typed))]
-pub(crate) fn implicit_typed<E: Env>(
+/// At most a sign and packed dimensions: bits of four states (6.10 and 6.20.2). It counts the nodes of the dimensions, and is Over
+/// exactly where they pass the most.
+#[tactic(auto, unfolding(crate::specs::Simple::implicit_typed))]
+pub fn implicit_typed<E: Env>(
     alloc: Global,
     sign: Option<Mark<Sign>>,
     dimensions: &[Dimension],

@@ -1,6 +1,6 @@
 ghost use Rattle.std.specs.Prelude.{◌≡◌, IfOk, option_map};
 ghost use Rattle.sve_fault.specs.Faults.{argument_of};
-ghost use Rattle.sve_type_of.specs.Earlier.{last_value, with_earlier, earlier_of};
+ghost use Rattle.sve_enum_type.specs.Earlier.{last_value, with_earlier, earlier_of};
 
 use std::alloc::Global;
 use sve_bytes::{Name, NoMemory};
@@ -90,7 +90,7 @@ fn found<'a, E: Env>(
 }
 
 impl<E: Env> Env for Among<'_, E> {
-    ghost use Rattle.sve_type_of.specs.Earlier.{told_among};
+    ghost use Rattle.sve_enum_type.specs.Earlier.{told_among};
 
     ghost told = { λ s. told_among (E.told s.env.now) s.base.now s.earlier.now };
 
