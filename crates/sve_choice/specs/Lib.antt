@@ -1,0 +1,3 @@
+pub mod Conditions
+pub mod Labels
+pub mod Held

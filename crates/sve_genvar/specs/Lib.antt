@@ -1,0 +1,2 @@
+pub mod Genvar
+pub mod Steps
