@@ -1,5 +1,5 @@
 -- What a value holds of each kind: nothing, where it is of another kind (own).
-use Rattle.std.specs.Prelude.{ℕ, false, List, [], None, Err}
+use Rattle.std.specs.Prelude.{ℕ, Bool, false, List, [], Option, Some, None, Ok, Err}
 use Rattle.sve_unit.specs.declared.chunk.Chunk.{Chunk}
 use Rattle.sve_diag.specs.declared.diag.Note.{Note}
 use Rattle.sve_key.specs.declared.value.Value.{Value}
@@ -43,3 +43,8 @@ tops_in_value value = []
 abbrev pub notes_in_value : Value → List Note
 notes_in_value (values.Index index) = index.diags
 notes_in_value value = []
+
+-- where the grammar stops in a chunk, and whether the nesting is too deep there
+abbrev pub stop_in : ReadingValue → Option (ℕ × Bool)
+stop_in (Ok words) = None
+stop_in (Err halt) = Some (halt.index, halt.deep)

@@ -2,6 +2,7 @@ ghost use Rattle.std.specs.Prelude.{◌≡◌, Ok, Err, true, IfOk, MatchOption}
 ghost use Rattle.std.specs.Arc.{arc_value};
 ghost use Rattle.std.specs.Result.{is_err};
 ghost use Rattle.sve_key.specs.Parts.{IsOfItsWords};
+ghost use Rattle.sve_key.specs.Values.{stop_in};
 
 use std::marker::Model;
 use std::sync::Arc;
@@ -64,6 +65,17 @@ impl Reading {
         match &self.read {
             Read::Whole(element) => Ok(Some(Arc::try_clone(element)?)),
             Read::Stopped { .. } => Ok(None),
+        }
+    }
+
+    /// The number of the token in front of which the grammar stops in the chunk, and whether the nesting is perhaps too deep there,
+    /// where it does not accept the chunk. It takes no memory.
+    pub fn stop(&self) -> Option<(u32, bool)>
+        ensures { result ≡ stop_in self.now }
+    {
+        match &self.read {
+            Read::Whole(_) => None,
+            Read::Stopped { index, deep } => Some((*index, *deep)),
         }
     }
 }

@@ -1,6 +1,6 @@
 ghost use Rattle.std.specs.Prelude.{◌≡◌, ◌<◌, ◌^◌, length, is_some, IfOk};
 ghost use Rattle.sve_prep.specs.Told.{IsShort, text_in};
-ghost use Rattle.sve_key.specs.Values.{text_in_value, names_in_value, file_in_value, chunks_in_value, tops_in_value, notes_in_value};
+ghost use Rattle.sve_key.specs.Values.{text_in_value, names_in_value, file_in_value, chunks_in_value, reading_in_value, stop_in, tops_in_value, notes_in_value};
 
 use crate::file_chunks::FileChunks;
 use crate::file_text::FileText;
@@ -94,6 +94,17 @@ impl Value {
         match self {
             Value::Chunks(chunks) => chunks.items(),
             _ => &[],
+        }
+    }
+
+    /// Where the grammar stops in the chunk, if it does; a value of another kind is as a chunk that is not there, which stops at its
+    /// front. It takes no memory.
+    pub fn stop(&self) -> Option<(u32, bool)>
+        ensures { result ≡ stop_in (reading_in_value self.now) }
+    {
+        match self {
+            Value::Element(reading) => reading.stop(),
+            _ => Some((0, false)),
         }
     }
 

@@ -46,6 +46,9 @@ one_newer r (look ∷ looks) n is = ⊎_elim above (within (one_newer r looks n)
         let there = others (ap (λ (b : Bool). if_newer b look (newer_than r looks)) (sym t.0) ∙ is) in
         (there.0, Contains-append_right (look ∷ []) looks n there.1)
 
+is_above : (r n : ℕ) → r < n → newer_than r (n ∷ []) ≡ n ∷ []
+is_above r n lt = elim (above_or_not r n) [ inl t ↦ ap (λ (b : Bool). if_newer b n []) t.0 | inr t ↦ absurd (omega (arith, lt, t.1)) ]
+
 -- the pass after one look more
 abbrev pub with_look : PassValue → ℕ → PassValue
 with_look pass n = record pass { looks = pass.looks ++ n ∷ [] }
@@ -81,3 +84,8 @@ module _ (before now after : PassValue) (n : ℕ) (looked : HasLooked before now
         looked = subst (λ (l : List ℕ). 0 < length l) (sym last_look) (omega (arith, length-append looked.looks.0 (n ∷ [])));
         none = subst (All (λ look. look ≤ r)) (sym last_look) (All-push (λ look. look ≤ r) looked.looks.0 n none le);
       }
+
+  pub first_above : (r : ℕ) → newer_than r now.looks ≡ newer_than r before.looks → r < n → newer_than r after.looks ≡ newer_than r before.looks ++ n ∷ []
+  first_above r same lt =
+      ap (λ (pass : PassValue). newer_than r pass.looks) is ∙ filter-append (nat_lt r) now.looks (n ∷ [])
+      ∙ ap (λ (l : List ℕ). l ++ newer_than r (n ∷ [])) same ∙ ap (λ (l : List ℕ). newer_than r before.looks ++ l) (is_above r n lt)

@@ -34,6 +34,7 @@ pub fn latest_answer<K: Ending>(
     ensures pass { HasLooked pass.old pass.new }
     ensures answer { IfOk result (λ answer. IsAnswer K.Key.cmp (values_of (K.given snapshot.now.files)) K.make K.answer_over query.now budget answer) }
     ensures looks { MatchResult result (λ _. SawNothingNewer snapshot.now.revision pass.old pass.new) (IsStopped snapshot.now.revision pass.old pass.new) }
+    ensures first { IfErr result (HasStopped (newer_than snapshot.now.revision pass.old.looks) (newer_than snapshot.now.revision pass.new.looks)) }
 {
     match watched_answer(alloc, board, snapshot, pass, kinds, query, budget) {
         Ok(answer) => {

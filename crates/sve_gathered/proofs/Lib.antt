@@ -1,0 +1,4 @@
+pub mod Asking
+mod Names
+mod SoFar
+pub mod AtFiles

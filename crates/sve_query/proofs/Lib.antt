@@ -1,0 +1,3 @@
+pub mod InOrder
+mod SameFiles
+pub mod LinesAt

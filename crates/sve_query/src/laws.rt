@@ -1,0 +1,27 @@
+//! What holds of the answers of queries. The clause of each function is a law, and its body does nothing.
+ghost use Rattle.std.specs.Prelude.{◌≡◌, ℕ, List};
+ghost use Rattle.sve_diag.specs.declared.diag.Diag.{Diag};
+ghost use Rattle.sve_text.specs.Rows.{Row, IsInOrder};
+ghost use Rattle.sve_front.specs.Fronts.{AreTops, AreDiagnostics};
+ghost use Rattle.sve_text.specs.Files.{FilesValue};
+ghost use Rattle.sve_command.specs.declared.commands.Query.{Query};
+ghost use Rattle.sve_store.specs.Made.{values_of};
+ghost use Rattle.sve_store.specs.Values.{IsAnswer};
+ghost use Rattle.sve_store.specs.declared.answer.Answer.{Answer};
+ghost use Rattle.sve_store.specs.declared.answer.Answer.TheVariants.{Done};
+ghost use Rattle.sve_key.specs.KeyOrder.{key_cmp};
+ghost use Rattle.sve_make.specs.Make.{given_of, make_of};
+ghost use Rattle.sve_query.specs.Answering.{answer_by};
+ghost use Rattle.sve_query.specs.AnswersAt.{diags_at, index_at, lines_at};
+
+/// The answer of a query at some files, over the values of all keys there, is a function of the files.
+pub fn answers_are_those_of_the_files()
+    ensures { (files : FilesValue) (query : Query) (budget : ℕ) (answer : Answer) → IsAnswer key_cmp (values_of (given_of files)) make_of answer_by query budget answer → answer ≡ Done (lines_at files.rows query) }
+{}
+
+/// At files whose rows stand in order, as those of every revision do, the tops and the diagnostics that are found from the elements
+/// of all units are those of the files.
+pub fn the_front_finds_what_the_files_have()
+    ensures tops { (rows : List Row) → IsInOrder rows → (tops : List (List ℕ)) → AreTops rows tops → tops ≡ (index_at rows).tops }
+    ensures diagnostics { (rows : List Row) → IsInOrder rows → (diags : List Diag) → AreDiagnostics rows diags → diags ≡ diags_at rows }
+{}
