@@ -5,7 +5,7 @@ use std::alloc::AllocError;
 use std::process::ExitCode;
 use std::{env, io};
 use sve_io::{RealIn, RealOut};
-use sve_serve::{Status, complaint, exit_code, serve};
+use sve_serve::{NoGate, Status, complaint, exit_code, serve};
 
 /// The words behind the program's name. Where one is no UTF-8 there are none, which asks for nothing.
 fn spoken_words(rt: &HostRuntime) -> Result<Vec<String>, AllocError> {
@@ -21,7 +21,7 @@ fn main(rt: HostRuntime) -> ExitCode {
         Ok(words) => {
             let mut source = RealIn::new(rt.stdin());
             let mut sink = RealOut::new(rt.stdout());
-            serve(&rt, rt.alloc(), &words, &mut source, &mut sink)
+            serve(&rt, rt.alloc(), &words, &mut source, &mut sink, &NoGate)
         }
         Err(AllocError) => Status::NoMemory,
     };

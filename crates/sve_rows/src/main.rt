@@ -6,6 +6,8 @@
 //!   source gives 8 bytes a call, and the sink takes 16.
 //! - Among the words `read!N` lets call N of the source fail, counted from 1, and `write!N` call N of the sink; each may stand
 //!   several times.
+//! - With the word `schedule!any` only that is told which no schedule of the clients changes: how long the history is, and for
+//!   each client the lines of texts that it was answered.
 //! - `run repeat!N | FRONT | UNIT | BETWEEN | BACK` has as its bytes FRONT, then N times UNIT with BETWEEN between them, then
 //!   BACK, each without the blanks round it. `#` in UNIT stands for the number of the turn, from 0. Both ends then move
 //!   65,536 bytes a call, and where the sink holds more than one line, only their number is told.

@@ -17,6 +17,8 @@ pub struct Row {
     pub failing_writes: Vec<u64>,
     /// How often a piece of the session is repeated, where one is.
     pub times: Option<u32>,
+    /// Whether the report depends on the schedule of the clients.
+    pub is_free: bool,
     /// What the source gives.
     pub bytes: Vec<u8>,
 }
@@ -29,6 +31,7 @@ pub fn row_of(alloc: Global, line: &str) -> Result<Row, AllocError> {
         failing_reads: Vec::new(alloc),
         failing_writes: Vec::new(alloc),
         times: None,
+        is_free: false,
         bytes: Vec::new(alloc),
     };
     for word in front.split_whitespace() {
@@ -55,6 +58,7 @@ fn add_word(alloc: Global, row: &mut Row, word: &str) -> Result<(), AllocError> 
         Some(("read", number)) => row.failing_reads.push(number.parse::<u64>().unwrap_or(0))?,
         Some(("write", number)) => row.failing_writes.push(number.parse::<u64>().unwrap_or(0))?,
         Some(("repeat", number)) => row.times = number.parse::<u32>().ok(),
+        Some(("schedule", "any")) => row.is_free = true,
         _ => row.words.push(String::from_str(alloc, word)?)?,
     }
     Ok(())

@@ -6,7 +6,7 @@ use std::io::Write;
 use std::sync::Wait;
 use std::thread::Threads;
 use sve_io::{MemSink, MemSource};
-use sve_serve::{exit_code, serve};
+use sve_serve::{NoGate, exit_code, serve};
 
 /// The most bytes that a sink takes.
 const ROOM: usize = 4_194_304;
@@ -19,17 +19,32 @@ pub fn write_run<R: Threads + Wait + Sync, W: Write>(
     out: &mut W,
 ) -> io::Result<()> {
     let is_long = row.times.is_some();
+    let is_free = row.is_free;
     let (reads, writes) = if is_long { (65_536, 65_536) } else { (8, 16) };
     let mut source = MemSource::new(row.bytes, reads, row.failing_reads);
     let mut sink = MemSink::new(alloc, writes, row.failing_writes, ROOM)?;
-    let status = serve(rt, alloc, &row.words, &mut source, &mut sink);
+    let status = serve(rt, alloc, &row.words, &mut source, &mut sink, &NoGate);
     writeln!(out, "=> {}", exit_code(status))?;
     let lines = sink.held().iter().filter(|b| **b == b'\n').count();
     if is_long && lines > 1 {
         writeln!(out, "  {lines} lines")
+    } else if is_free {
+        write_texts(sink.held(), out)
     } else {
         write_held(sink.held(), out)
     }
+}
+
+/// Writes what a report says whatever the schedule was: how long the history is, and for each client the lines of texts
+/// that it was answered, each behind two blanks.
+fn write_texts<W: Write>(held: &[u8], out: &mut W) -> io::Result<()> {
+    for line in held.split_inclusive(|b| *b == b'\n') {
+        if line.starts_with(b"history ") || line.starts_with(b"client ") || line.starts_with(b"|") {
+            out.write_all(b"  ")?;
+            out.write_all(line)?;
+        }
+    }
+    Ok(())
 }
 
 /// Writes what a sink holds, each line behind two blanks.

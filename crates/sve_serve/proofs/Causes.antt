@@ -10,7 +10,11 @@ use Rattle.sve_serve.specs.declared.status.Status.TheVariants.{Done, Usage, BadS
 use Rattle.sve_serve.specs.Endings.{Seen, IsReadUpTo, IsOutputForRead, HasWrittenOutput, Ends}
 use Rattle.sve_serve.specs.Runs.{max_session, usage_line, too_large_line, AreLeft, IsReportOf, IsRefusalOf, IsBad, IsOutputFor, WritesItsOutput, IsRunOver}
 use Rattle.sve_serve.specs.Unbuilt.{first_later}
-use Rattle.sve_serve.specs.Words.{run, usage, spoken}
+use Rattle.sve_words.specs.declared.request.Options.{Options}
+use Rattle.sve_words.specs.declared.request.Spoken.{Spoken}
+use Rattle.sve_words.specs.declared.request.Spoken.TheVariants.{Run, Usage as NoRun}
+use Rattle.sve_words.specs.Words.{spoken}
+use Rattle.sve_serve.specs.Words.{IsRun}
 
 same_bytes : (left : Option (List ℕ)) (bytes all : List ℕ) → left ≡ Some bytes → IfSome left (λ l. l ≡ all) → all ≡ bytes
 same_bytes None bytes all is same = absurd (cc)
@@ -82,10 +86,10 @@ module _ (words : List (List ℕ)) (unread unwritten : Type 0) (s s' k k' : Seen
       let (given, text, all, is_for, gains) = gained status written in
       (text, subst (λ (b : List ℕ). IsOutputFor words b status text) (same_bytes s.bytes bytes given is all) is_for)
 
-  pub headline : (result : Status) → Ends words unread unwritten s s' k k' result → result ≡ Done → (bytes : List ℕ) × (text : List ℕ) × AreLeft s.bytes bytes × IsReportOf bytes text × Gains k.bytes k'.bytes text
+  pub headline : (result : Status) → Ends words unread unwritten s s' k k' result → result ≡ Done → (options : Options) × (spoken words ≡ Run options) × (bytes : List ℕ) × (text : List ℕ) × AreLeft s.bytes bytes × IsReportOf options bytes text × Gains k.bytes k'.bytes text
   headline result ends done =
       let (bytes, text, all, is_for, gains) = gained Done (subst (Ends words unread unwritten s s' k k') done ends) in
-      (bytes, text, all, is_for.2, gains)
+      (is_for.0.0, is_for.0.1, bytes, text, all, is_for.2, gains)
 
   pub said : (result : Status) → Ends words unread unwritten s s' k k' result → WritesItsOutput result → HasGained result
   said Done ends writes = gained Done ends
@@ -104,15 +108,15 @@ module _ (words : List (List ℕ)) (unread unwritten : Type 0) (s s' k k' : Seen
       let (text, (asked, (given, whole, reply)), written) = subst (Ends words unread unwritten s s' k k') bad ends in
       at_end s.bytes s'.bytes given whole.read whole.all
 
-  pub usage_only : (result : Status) → Ends words unread unwritten s s' k k' result → result ≡ Usage → (spoken words ≡ usage) × Gains k.bytes k'.bytes usage_line
+  pub usage_only : (result : Status) → Ends words unread unwritten s s' k k' result → result ≡ Usage → (spoken words ≡ NoRun) × Gains k.bytes k'.bytes usage_line
   usage_only result ends is =
       let (text, (asked, alone, line), (gains, still)) = subst (Ends words unread unwritten s s' k k') is ends in
       (asked, subst (Gains k.bytes k'.bytes) line gains)
 
-  not_asked : spoken words ≡ usage → spoken words ≡ run → ⊥
-  not_asked a b = cc
+  not_asked : spoken words ≡ NoRun → IsRun words → ⊥
+  not_asked a b = let bad : ◌≡◌ {A = Spoken} NoRun (Run b.0) = sym a ∙ b.1 in absurd (cc)
 
-  output_unread : (status : Status) (text : List ℕ) → spoken words ≡ usage → IsOutputForRead words unread s s' status text → unread
+  output_unread : (status : Status) (text : List ℕ) → spoken words ≡ NoRun → IsOutputForRead words unread s s' status text → unread
   output_unread Done text a output = absurd (not_asked a output.0)
   output_unread BadSession text a output = absurd (not_asked a output.0)
   output_unread Usage text a output = output.1
@@ -121,14 +125,15 @@ module _ (words : List (List ℕ)) (unread unwritten : Type 0) (s s' k k' : Seen
   output_unread WriteFault text a output = absurd output
   output_unread NoMemory text a output = absurd output
 
-  pub usage_where : (result : Status) → Ends words unread unwritten s s' k k' result → spoken words ≡ usage → unread × ((result ≡ Usage) ⊎ (result ≡ WriteFault))
+  pub usage_where : (result : Status) → Ends words unread unwritten s s' k k' result → spoken words ≡ NoRun → unread × ((result ≡ Usage) ⊎ (result ≡ WriteFault) ⊎ (result ≡ NoMemory))
   usage_where Done ends a = absurd (not_asked a ends.1.0)
   usage_where BadSession ends a = absurd (not_asked a ends.1.0)
   usage_where Usage ends a = (ends.1.1, inl refl)
   usage_where TooLarge ends a = absurd (not_asked a ends.1.0)
   usage_where ReadFault ends a = absurd (not_asked a ends.0)
-  usage_where WriteFault ends a = (output_unread ends.0 ends.1 a ends.2, inr refl)
-  usage_where NoMemory ends a = absurd (not_asked a ends.0)
+  usage_where WriteFault ends a = (output_unread ends.0 ends.1 a ends.2, inr (inl refl))
+  usage_where NoMemory (untouched, inl still) a = (still, inr (inr refl))
+  usage_where NoMemory (untouched, inr asked) a = absurd (not_asked a asked.0)
 
   pub read_fault : (result : Status) → Ends words unread unwritten s s' k k' result → result ≡ ReadFault → HasRisen s.faults s'.faults × unwritten
   read_fault result ends is = let e = subst (Ends words unread unwritten s s' k k') is ends in (e.3, e.1)
@@ -149,8 +154,12 @@ module _ (words : List (List ℕ)) (unread unwritten : Type 0) (s s' k k' : Seen
       let (text, (asked, (moved, size, loses), line), (gains, still)) = subst (Ends words unread unwritten s s' k k') is ends in
       (moved, size, loses, subst (Gains k.bytes k'.bytes) line gains)
 
-  pub no_memory : (result : Status) → Ends words unread unwritten s s' k k' result → result ≡ NoMemory → (spoken words ≡ run) × unwritten
-  no_memory result ends is = let e = subst (Ends words unread unwritten s s' k k') is ends in (e.0, e.1)
+  pub no_memory : (result : Status) → Ends words unread unwritten s s' k k' result → result ≡ NoMemory → unwritten × (unread ⊎ IsRun words)
+  no_memory result ends is = let e = subst (Ends words unread unwritten s s' k k') is ends in (e.0, which e.1)
+    where
+      which : (unread ⊎ (IsRun words × IsReadUpTo s s' (max_session + 1))) → unread ⊎ IsRun words
+      which (inl same) = inl same
+      which (inr asked) = inr asked.0
 
   -- so many bytes were read, and where they are too many the call ends in one of three ways
   abbrev pub Reads : Status → Type 0
@@ -178,7 +187,8 @@ module _ (words : List (List ℕ)) (unread unwritten : Type 0) (s s' k k' : Seen
   read same TooLarge (text, (asked, (moved, size, loses), line), written) = (moved, omega (arith, size), loses, λ many. inl refl)
   read same ReadFault ends = few ReadFault ends.2
   read same WriteFault ends = output_reads same ends.0 ends.1 ends.2
-  read same NoMemory (asked, untouched, (moved, size, loses)) = (moved, size, loses, λ many. inr (inr refl))
+  read same NoMemory (untouched, inl still) = alone NoMemory (same still)
+  read same NoMemory (untouched, inr (asked, (moved, size, loses))) = (moved, size, loses, λ many. inr (inr refl))
 
   -- the words ask for a run over a source that tells these bytes, and no end fails
   abbrev pub Smooth : List ℕ → Type 0

@@ -5,7 +5,8 @@ use Rattle.sve_serve.specs.declared.status.Status.TheVariants.{Done, Usage, BadS
 use Rattle.sve_serve.specs.Endings.{Seen, IsReadWhole, IsOutputForRead, IsWrittenOrCutShort, HasWrittenOutput, Ends}
 use Rattle.sve_serve.specs.declared.serving.Reply.{Reply}
 use Rattle.sve_serve.specs.Runs.{IsRefusalOf, IsOutputForSession}
-use Rattle.sve_serve.specs.Words.{run, spoken}
+use Rattle.sve_words.specs.declared.request.Options.{Options}
+use Rattle.sve_serve.specs.Words.{IsRun}
 
 written_ends : (words : List (List ℕ)) (unread unwritten : Type 0) (s s' k k' : Seen) (status : Status) (text : List ℕ) → IsOutputForRead words unread s s' status text → HasWrittenOutput words unread s s' k k' status → Ends words unread unwritten s s' k k' status
 written_ends words unread unwritten s s' k k' Done text output written = written
@@ -21,7 +22,7 @@ output_ends words unread unwritten s s' k k' status result text output (inl (is,
 output_ends words unread unwritten s s' k k' status result text output (inr (is, cut)) = subst (Ends words unread unwritten s s' k k') (sym is) (status, text, output, cut)
 
 -- the output for a session that was read whole
-pub session_output : (words : List (List ℕ)) (unread : Type 0) (s s' : Seen) (bytes : List ℕ) (status : Status) (text : List ℕ) → spoken words ≡ run → IsReadWhole s s' bytes → IsOutputForSession bytes status text → IsOutputForRead words unread s s' status text
+pub session_output : (words : List (List ℕ)) (unread : Type 0) (s s' : Seen) (bytes : List ℕ) (status : Status) (text : List ℕ) (asked : IsRun words) → IsReadWhole s s' bytes → IsOutputForSession asked.0 bytes status text → IsOutputForRead words unread s s' status text
 session_output words unread s s' bytes Done text asked whole reply = (asked, (bytes, whole, reply))
 session_output words unread s s' bytes BadSession text asked whole reply = (asked, (bytes, whole, reply))
 session_output words unread s s' bytes Usage text asked whole reply = absurd reply
@@ -31,7 +32,7 @@ session_output words unread s s' bytes WriteFault text asked whole reply = absur
 session_output words unread s s' bytes NoMemory text asked whole reply = absurd reply
 
 -- a line that refuses the bytes is the output for them
-pub refused_output : {E : Type 0} (bytes text : List ℕ) (r : Result Reply E) → IfOk r (λ reply. (reply.status ≡ BadSession) × (reply.text.items ≡ text)) → IsRefusalOf bytes text
-    → IfOk r (λ reply. IsOutputForSession bytes reply.status reply.text.items)
-refused_output bytes text (Ok reply) h is = subst (λ (s : Status). IsOutputForSession bytes s reply.text.items) (sym h.0) (subst (IsRefusalOf bytes) (sym h.1) is)
-refused_output bytes text (Err e) h is = tt
+pub refused_output : {E : Type 0} (options : Options) (bytes text : List ℕ) (r : Result Reply E) → IfOk r (λ reply. (reply.status ≡ BadSession) × (reply.text.items ≡ text)) → IsRefusalOf bytes text
+    → IfOk r (λ reply. IsOutputForSession options bytes reply.status reply.text.items)
+refused_output options bytes text (Ok reply) h is = subst (λ (s : Status). IsOutputForSession options bytes s reply.text.items) (sym h.0) (subst (IsRefusalOf bytes) (sym h.1) is)
+refused_output options bytes text (Err e) h is = tt

@@ -1,5 +1,6 @@
+pub mod Alone
+pub mod Answered
 pub mod Causes
 pub mod Endings
-pub mod Heads
-pub mod SerialRuns
+pub mod Sessions
 pub mod SmallestRun

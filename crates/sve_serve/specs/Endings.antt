@@ -5,7 +5,10 @@ use Rattle.sve_io.specs.Moves.{Loses, Gains}
 use Rattle.sve_serve.specs.declared.status.Status.{Status}
 use Rattle.sve_serve.specs.declared.status.Status.TheVariants.{Done, Usage, BadSession, ReadFault, WriteFault, TooLarge, NoMemory}
 use Rattle.sve_serve.specs.Runs.{max_session, usage_line, too_large_line, AreLeft, IsOutputForSession}
-use Rattle.sve_serve.specs.Words.{run, usage, spoken}
+use Rattle.sve_words.specs.declared.request.Options.{Options}
+use Rattle.sve_words.specs.declared.request.Spoken.TheVariants.{Usage as NoRun}
+use Rattle.sve_words.specs.Words.{spoken}
+use Rattle.sve_serve.specs.Words.{IsRun}
 
 -- A source or a sink at one moment: the bytes that it tells, and its count of faults.
 pub record Seen : Type 0 where
@@ -26,16 +29,16 @@ pub record IsReadWhole (before after : Seen) (bytes : List ℕ) : Type 0 where
   pub read : Loses before.bytes after.bytes bytes
   pub all : AreLeft before.bytes bytes
 
--- a session was read whole, and the text is the output for it
-abbrev pub HasReadSession : Seen → Seen → Status → List ℕ → Type 0
-HasReadSession before after status text = (bytes : List ℕ) × IsReadWhole before after bytes × IsOutputForSession bytes status text
+-- a session was read whole, and the text is the output for it in a run with these options
+abbrev pub HasReadSession : Options → Seen → Seen → Status → List ℕ → Type 0
+HasReadSession options before after status text = (bytes : List ℕ) × IsReadWhole before after bytes × IsOutputForSession options bytes status text
 
 -- The output for what was read, before the run ends with this status; `unread` says that it left the source alone.
 abbrev pub IsOutputForRead : List (List ℕ) → Type 0 → Seen → Seen → Status → List ℕ → Type 0
-IsOutputForRead words unread before after Usage text = (spoken words ≡ usage) × unread × (text ≡ usage_line)
-IsOutputForRead words unread before after TooLarge text = (spoken words ≡ run) × IsReadPast before after × (text ≡ too_large_line)
-IsOutputForRead words unread before after Done text = (spoken words ≡ run) × HasReadSession before after Done text
-IsOutputForRead words unread before after BadSession text = (spoken words ≡ run) × HasReadSession before after BadSession text
+IsOutputForRead words unread before after Usage text = (spoken words ≡ NoRun) × unread × (text ≡ usage_line)
+IsOutputForRead words unread before after TooLarge text = IsRun words × IsReadPast before after × (text ≡ too_large_line)
+IsOutputForRead words unread before after Done text = (asked : IsRun words) × HasReadSession asked.0 before after Done text
+IsOutputForRead words unread before after BadSession text = (asked : IsRun words) × HasReadSession asked.0 before after BadSession text
 IsOutputForRead words unread before after ReadFault text = ⊥
 IsOutputForRead words unread before after WriteFault text = ⊥
 IsOutputForRead words unread before after NoMemory text = ⊥
@@ -62,6 +65,6 @@ Ends words unread unwritten source source' sink sink' Done = HasWrittenOutput wo
 Ends words unread unwritten source source' sink sink' Usage = HasWrittenOutput words unread source source' sink sink' Usage
 Ends words unread unwritten source source' sink sink' BadSession = HasWrittenOutput words unread source source' sink sink' BadSession
 Ends words unread unwritten source source' sink sink' TooLarge = HasWrittenOutput words unread source source' sink sink' TooLarge
-Ends words unread unwritten source source' sink sink' ReadFault = (spoken words ≡ run) × unwritten × IsReadUpTo source source' max_session × HasRisen source.faults source'.faults
+Ends words unread unwritten source source' sink sink' ReadFault = IsRun words × unwritten × IsReadUpTo source source' max_session × HasRisen source.faults source'.faults
 Ends words unread unwritten source source' sink sink' WriteFault = (status : Status) × (text : List ℕ) × IsOutputForRead words unread source source' status text × IsCutShort sink sink' text
-Ends words unread unwritten source source' sink sink' NoMemory = (spoken words ≡ run) × unwritten × IsReadUpTo source source' (max_session + 1)
+Ends words unread unwritten source source' sink sink' NoMemory = unwritten × (unread ⊎ (IsRun words × IsReadUpTo source source' (max_session + 1)))

@@ -2,7 +2,6 @@ pub mod Answers
 pub mod Endings
 pub mod ExitCodes
 pub mod Honest
-pub mod Revisions
 pub mod Runs
 pub mod Serial
 pub mod Unbuilt

@@ -1,5 +1,6 @@
 -- The output of a run, and the status with which it ends (own).
-use Rattle.std.specs.Prelude.{ℕ, ◌≡◌, ◌<◌, ◌≤◌, ◌⊎◌, ◌++◌, List, Option, Some, None, length, IfSome, codes, decimal}
+use Rattle.std.specs.Prelude.{ℕ, ◌≡◌, ◌<◌, ◌≤◌, ◌⊎◌, ◌++◌, List, [], ◌∷◌, Option, Some, None, length, IfSome, IsTrue, codes, decimal}
+use Rattle.sve_command.specs.declared.commands.Command.{Command}
 use Rattle.sve_script.specs.declared.sessions.Script.{Script}
 use Rattle.sve_script.specs.declared.sessions.Which.{Which}
 use Rattle.sve_script.specs.declared.sessions.Which.TheVariants.{Files, Bytes, Clients, Commands, Edits, Budget}
@@ -8,18 +9,22 @@ use Rattle.sve_report.specs.declared.entry.Entry.{Entry}
 use Rattle.sve_report.specs.declared.record.Record.{Record}
 use Rattle.sve_serve.specs.declared.status.Status.{Status}
 use Rattle.sve_serve.specs.declared.status.Status.TheVariants.{Done, Usage, BadSession, ReadFault, WriteFault, TooLarge, NoMemory}
-use Rattle.sve_serve.specs.Honest.{Honest}
+use Rattle.sve_serve.specs.Honest.{Honest, run_budget, AreNotCancelled}
+use Rattle.sve_serve.specs.Serial.{report_alone}
 use Rattle.sve_report.specs.Lines.{ended}
 use Rattle.sve_report.specs.Reports.{report}
 use Rattle.sve_serve.specs.Unbuilt.{first_later}
-use Rattle.sve_serve.specs.Words.{run, usage, spoken}
+use Rattle.sve_words.specs.declared.request.Options.{Options}
+use Rattle.sve_words.specs.declared.request.Spoken.TheVariants.{Usage as NoRun}
+use Rattle.sve_words.specs.Words.{spoken}
+use Rattle.sve_serve.specs.Words.{IsRun}
 
 -- the most bytes of a session
 abbrev pub max_session : ℕ
 max_session = 16777216
 
 abbrev pub usage_line : List ℕ
-usage_line = ended (codes "usage: svserve run")
+usage_line = ended (codes "usage: svserve run [--budget N] [--serial]")
 
 abbrev pub not_json_line : List ℕ
 not_json_line = ended (codes "bad session: not JSON")
@@ -48,14 +53,17 @@ too_large_line = ended (codes "bad session: more than 16777216 bytes")
 abbrev pub IsLater : List ℕ → List ℕ → Type 0
 IsLater bytes path = (script : Script) × IsSession bytes script × (first_later script.clients ≡ Some path)
 
--- The bytes are a session, all of which is answered, and the text reports a history of it with honest records.
-pub record IsReportOf (bytes text : List ℕ) : Type 0 where
+-- The bytes are a session, all of which is answered, and the text reports a history of it with records that are honest in a run with these options. Where
+-- the clients run one after another no ask is cancelled. One client has one report, whether or not it is to run so.
+pub record IsReportOf (options : Options) (bytes text : List ℕ) : Type 0 where
   pub script : Script
   pub entries : List Entry
   pub records : List (List Record)
   pub session : IsSession bytes script
   pub whole : first_later script.clients ≡ None
-  pub honest : Honest script entries records
+  pub honest : Honest options script entries records
+  pub in_turn : IsTrue options.serial → AreNotCancelled records
+  pub alone : (commands : List Command) → script.clients ≡ commands ∷ [] → text ≡ report_alone (run_budget options) script.files commands
   pub written : text ≡ report entries records
 
 -- the line for bytes that are no session, or one that is not answered yet
@@ -74,22 +82,22 @@ IsBad bytes =
     ⊎ ((which : Which) × (number : ℕ) × IsBeyondLimit bytes which number)
     ⊎ ((path : List ℕ) × IsLater bytes path)
 
--- The output for the bytes of a session that was read to its end, and the status with which the run then ends.
-abbrev pub IsOutputForSession : List ℕ → Status → List ℕ → Type 0
-IsOutputForSession bytes Done text = IsReportOf bytes text
-IsOutputForSession bytes BadSession text = IsRefusalOf bytes text
-IsOutputForSession bytes Usage text = ⊥
-IsOutputForSession bytes ReadFault text = ⊥
-IsOutputForSession bytes WriteFault text = ⊥
-IsOutputForSession bytes TooLarge text = ⊥
-IsOutputForSession bytes NoMemory text = ⊥
+-- The output for the bytes of a session that was read to its end in a run with these options, and the status with which the run then ends.
+abbrev pub IsOutputForSession : Options → List ℕ → Status → List ℕ → Type 0
+IsOutputForSession options bytes Done text = IsReportOf options bytes text
+IsOutputForSession options bytes BadSession text = IsRefusalOf bytes text
+IsOutputForSession options bytes Usage text = ⊥
+IsOutputForSession options bytes ReadFault text = ⊥
+IsOutputForSession options bytes WriteFault text = ⊥
+IsOutputForSession options bytes TooLarge text = ⊥
+IsOutputForSession options bytes NoMemory text = ⊥
 
 -- The output for these words and these bytes of the source, and the status with which the run ends once it is written.
 abbrev pub IsOutputFor : List (List ℕ) → List ℕ → Status → List ℕ → Type 0
-IsOutputFor words bytes Done text = (spoken words ≡ run) × (length bytes ≤ max_session) × IsReportOf bytes text
-IsOutputFor words bytes Usage text = (spoken words ≡ usage) × (text ≡ usage_line)
-IsOutputFor words bytes BadSession text = (spoken words ≡ run) × (length bytes ≤ max_session) × IsRefusalOf bytes text
-IsOutputFor words bytes TooLarge text = (spoken words ≡ run) × (max_session < length bytes) × (text ≡ too_large_line)
+IsOutputFor words bytes Done text = (asked : IsRun words) × (length bytes ≤ max_session) × IsReportOf asked.0 bytes text
+IsOutputFor words bytes Usage text = (spoken words ≡ NoRun) × (text ≡ usage_line)
+IsOutputFor words bytes BadSession text = IsRun words × (length bytes ≤ max_session) × IsRefusalOf bytes text
+IsOutputFor words bytes TooLarge text = IsRun words × (max_session < length bytes) × (text ≡ too_large_line)
 IsOutputFor words bytes ReadFault text = ⊥
 IsOutputFor words bytes WriteFault text = ⊥
 IsOutputFor words bytes NoMemory text = ⊥
@@ -110,4 +118,4 @@ AreLeft left bytes = IfSome left (λ told. told ≡ bytes)
 
 -- the words ask for a run over a source that tells these bytes
 abbrev pub IsRunOver : List (List ℕ) → Option (List ℕ) → List ℕ → Type 0
-IsRunOver words left bytes = (spoken words ≡ run) × (left ≡ Some bytes)
+IsRunOver words left bytes = IsRun words × (left ≡ Some bytes)

@@ -1,16 +1,27 @@
--- The run of one client's commands, each at the newest revision.
-use Rattle.std.specs.Prelude.{ℕ, ◌≡◌, ◌+◌, List, [], ◌∷◌, ◌++◌, length, Option, Some, None}
+-- The one report of a session of one client: each of its commands comes at the newest revision (own).
+use Rattle.std.specs.Prelude.{ℕ, ◌+◌, List, [], ◌∷◌, ◌++◌, length, Option, Some, None, unwrap_or}
 use Rattle.sve_text.specs.declared.edit.Edit.{Edit}
 use Rattle.sve_text.specs.declared.why.Refusal.{Refusal}
-use Rattle.sve_text.specs.Files.{files_after}
+use Rattle.sve_text.specs.Files.{FilesValue, files_after}
 use Rattle.sve_text.specs.Refusals.{refusal_of}
 use Rattle.sve_command.specs.declared.commands.Command.{Command}
 use Rattle.sve_command.specs.declared.commands.Command.TheVariants.{Commit, Ask}
+use Rattle.sve_store.specs.declared.answer.Answer.{Answer}
+use Rattle.sve_store.specs.declared.answer.Answer.TheVariants.{Done, Spent as Unanswered}
 use Rattle.sve_report.specs.declared.entry.Entry.{Entry}
 use Rattle.sve_report.specs.declared.record.Record.{Record}
-use Rattle.sve_report.specs.declared.record.Record.TheVariants.{Accepted, Refused, Answered}
-use Rattle.sve_serve.specs.Answers.{IsAnswer}
-use Rattle.sve_serve.specs.Revisions.{Revisions}
+use Rattle.sve_report.specs.declared.record.Record.TheVariants.{Accepted, Refused, Answered, Spent}
+use Rattle.sve_report.specs.Reports.{report}
+use Rattle.sve_serve.specs.Answers.{answer_at}
+
+-- the accepted commits, and the files that they leave
+pub record Revisions : Type 0 where
+  pub entries : List Entry
+  pub newest : FilesValue
+
+-- the entry of the client's command of this number
+abbrev pub entry_of : ℕ → Entry
+entry_of j = record { client = 1; command = j }
 
 -- what a commit leaves, as this entry, where it is not refused
 abbrev pub committed : Revisions → Entry → List Edit → Option Refusal → Revisions
@@ -22,26 +33,35 @@ abbrev pub commit_record : Revisions → Option Refusal → Record
 commit_record h None = Accepted (length h.entries + 1)
 commit_record h (Some refusal) = Refused (length h.entries) refusal.edit refusal.why
 
--- what a command leaves, as this entry where it is a commit
-abbrev pub revisions_after_one : Revisions → Entry → Command → Revisions
-revisions_after_one h entry (Commit edits) = committed h entry edits (refusal_of h.newest edits)
-revisions_after_one h entry (Ask query mode budget) = h
+-- what an ask with this budget is told
+abbrev pub ask_record : ℕ → ℕ → Answer → Record
+ask_record r budget (Done lines) = Answered r lines
+ask_record r budget Unanswered = Spent r budget
 
--- what it is told
-abbrev pub IsToldOne : Revisions → Command → Record → Type 0
-IsToldOne h (Commit edits) rec = rec ≡ commit_record h (refusal_of h.newest edits)
-IsToldOne h (Ask query mode budget) rec = (lines : List (List ℕ)) × (rec ≡ Answered (length h.entries) lines) × IsAnswer h.newest query lines
+-- what command j leaves
+abbrev pub revisions_after_one : Revisions → ℕ → Command → Revisions
+revisions_after_one h j (Commit edits) = committed h (entry_of j) edits (refusal_of h.newest edits)
+revisions_after_one h j (Ask query mode budget) = h
 
-abbrev pub entry_of : ℕ → ℕ → Entry
-entry_of i j = record { client = i; command = j }
+-- what a command is told, where asks that give no budget have this one
+abbrev pub record_of : ℕ → Revisions → Command → Record
+record_of given h (Commit edits) = commit_record h (refusal_of h.newest edits)
+record_of given h (Ask query mode budget) = ask_record (length h.entries) (unwrap_or budget given) (answer_at h.newest query (unwrap_or budget given))
 
--- the commands of client i from number j on
-abbrev pub revisions_after : Revisions → ℕ → ℕ → List Command → Revisions
-revisions_after h i j [] = h
-revisions_after h i j (command ∷ commands) = revisions_after (revisions_after_one h (entry_of i j) command) i (j + 1) commands
+-- what the commands from number j on leave
+abbrev pub revisions_after : Revisions → ℕ → List Command → Revisions
+revisions_after h j [] = h
+revisions_after h j (command ∷ commands) = revisions_after (revisions_after_one h j command) (j + 1) commands
 
-abbrev pub AreTold : Revisions → ℕ → ℕ → List Command → List Record → Type 0
-AreTold h i j [] [] = Unit {0}
-AreTold h i j (command ∷ commands) (rec ∷ recs) = IsToldOne h command rec × AreTold (revisions_after_one h (entry_of i j) command) i (j + 1) commands recs
-AreTold h i j [] (rec ∷ recs) = ⊥
-AreTold h i j (command ∷ commands) [] = ⊥
+-- what they are told
+abbrev pub records_of : ℕ → Revisions → ℕ → List Command → List Record
+records_of given h j [] = []
+records_of given h j (command ∷ commands) = record_of given h command ∷ records_of given (revisions_after_one h j command) (j + 1) commands
+
+-- the opening files, which no commit has touched
+abbrev pub opened : FilesValue → Revisions
+opened files = record { entries = []; newest = files }
+
+-- the report of one client with these commands over these opening files
+abbrev pub report_alone : ℕ → FilesValue → List Command → List ℕ
+report_alone given files commands = report (revisions_after (opened files) 1 commands).entries (records_of given (opened files) 1 commands ∷ [])

@@ -1,5 +1,5 @@
 -- What a session has that is not built (own).
-use Rattle.std.specs.Prelude.{ℕ, ◌+◌, ◌++◌, Bool, true, false, List, [], ◌∷◌, Option, Some, None, option_map, decimal, codes, if◌then◌else◌}
+use Rattle.std.specs.Prelude.{ℕ, ◌+◌, ◌++◌, Bool, true, false, List, [], ◌∷◌, Option, Some, None, decimal, codes, if◌then◌else◌}
 use Rattle.sve_command.specs.declared.commands.Command.{Command}
 use Rattle.sve_command.specs.declared.commands.Command.TheVariants.{Commit, Ask}
 use Rattle.sve_command.specs.declared.commands.Query.{Query}
@@ -25,11 +25,20 @@ abbrev pub first_unbuilt : ℕ → List Command → Option ℕ
 first_unbuilt index [] = None
 first_unbuilt index (command ∷ commands) = if is_built_command command then first_unbuilt (index + 1) commands else Some index
 
-abbrev pub ask_path : ℕ → List ℕ
-ask_path index = codes "/clients/0/" ++ decimal index ++ codes "/ask"
+-- the path of the ask of this index of the client of this index
+abbrev pub ask_path : ℕ → ℕ → List ℕ
+ask_path client index = codes "/clients/" ++ decimal client ++ codes "/" ++ decimal index ++ codes "/ask"
 
--- the path of the first part of a session of these clients that is not built: a second client, or else the client's first ask that is not
+-- that of the client's ask, where it has one that is not built; else that of a later client
+abbrev pub path_or : ℕ → Option ℕ → Option (List ℕ) → Option (List ℕ)
+path_or client None later = later
+path_or client (Some index) later = Some (ask_path client index)
+
+-- the path of the first ask that is not built, from the client of this index on
+abbrev pub first_later_from : ℕ → List (List Command) → Option (List ℕ)
+first_later_from client [] = None
+first_later_from client (commands ∷ clients) = path_or client (first_unbuilt 0 commands) (first_later_from (client + 1) clients)
+
+-- the path of the first ask of a session of these clients that is not built
 abbrev pub first_later : List (List Command) → Option (List ℕ)
-first_later [] = None
-first_later (client ∷ []) = option_map ask_path (first_unbuilt 0 client)
-first_later (client ∷ other ∷ clients) = Some (codes "/clients/1")
+first_later clients = first_later_from 0 clients

@@ -1,12 +1,9 @@
 -- What the words of the command line ask for (own).
-use Rattle.std.specs.Prelude.{ℕ, List, [], ◌∷◌, bytes_eq, codes, if◌then◌else◌}
+use Rattle.std.specs.Prelude.{ℕ, ◌≡◌, List}
+use Rattle.sve_words.specs.declared.request.Options.{Options}
+use Rattle.sve_words.specs.declared.request.Spoken.TheVariants.{Run}
+use Rattle.sve_words.specs.Words.{spoken}
 
-pub data Spoken : Type 0 where
-  run : Spoken
-  usage : Spoken
-
--- the one word `run`
-abbrev pub spoken : List (List ℕ) → Spoken
-spoken [] = usage
-spoken (word ∷ []) = if bytes_eq word (codes "run") then run else usage
-spoken (word ∷ other ∷ words) = usage
+-- the words ask for a run, with these options
+abbrev pub IsRun : List (List ℕ) → Type 0
+IsRun words = (options : Options) × (spoken words ≡ Run options)

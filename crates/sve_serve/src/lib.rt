@@ -1,13 +1,12 @@
 //! The whole program over any source and sink: a session is read, run and answered, and its report is written.
 #![tactic(auto)]
 
-mod answering;
 mod running;
 mod serving;
 mod status;
 mod transfer;
 mod unbuilt;
-mod words;
 
 pub use serving::serve;
 pub use status::{Status, complaint, exit_code};
+pub use sve_runner::{Gate, NoGate, Point};

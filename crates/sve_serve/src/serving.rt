@@ -14,13 +14,14 @@ ghost use Rattle.sve_script.specs.Session.{IsSession};
 ghost use Rattle.sve_serve.specs.Endings.{Ends, IsWrittenOrCutShort};
 ghost use Rattle.sve_serve.specs.Runs.{max_session, usage_line, too_large_line, AreLeft, IsReportOf, IsRunOver, WritesItsOutput, IsOutputFor, IsOutputForSession, IsBad, word_of, shape_line, limit_line, later_line};
 ghost use Rattle.sve_serve.specs.Unbuilt.{first_later};
-ghost use Rattle.sve_serve.specs.Words.{run, usage, spoken};
+ghost use Rattle.sve_serve.specs.Words.{IsRun};
+ghost use Rattle.sve_words.specs.declared.request.Options.{Options as OptionsSaid};
+ghost use Rattle.sve_words.specs.Words.{spoken};
 
-use crate::running::{run, told_entries};
+use crate::running::run;
 use crate::status::Status;
 use crate::transfer::{ReadError, read_session, write_text};
 use crate::unbuilt::first_later;
-use crate::words::is_run;
 use itoa::Buffer;
 use std::alloc::{AllocError, Global};
 use std::sync::Wait;
@@ -28,9 +29,11 @@ use std::thread::Threads;
 use sve_bytes::NoMemory;
 use sve_io::{Sink, Source};
 use sve_report::report_text;
+use sve_runner::{Gate, told_entries};
 use sve_script::{BadSession, Script, Which, script};
+use sve_words::{Options, Spoken, spoken};
 
-const USAGE_LINE: &[u8] = b"usage: svserve run\n";
+const USAGE_LINE: &[u8] = b"usage: svserve run [--budget N] [--serial]\n";
 
 const NOT_JSON_LINE: &[u8] = b"bad session: not JSON\n";
 
@@ -43,24 +46,34 @@ struct Reply {
     text: Vec<u8>,
 }
 
-/// Does all that the program does: reads the words, then for `run` the session from the source to its end, runs it,
-/// and writes the report to the sink. A session has at most 16,777,216 bytes.
+/// Does all that the program does: reads the words, then for `run` the session from the source to its end, runs its
+/// clients, and writes the report to the sink. A session has at most 16,777,216 bytes. Each client has a thread of its
+/// own, or shares the calling one where none can be had; with `--serial` they run one after another. Every thread is
+/// joined. In each ask the gate is told when the ask has its snapshot, and when it has its outcome. It may wait.
 ///
-/// It answers `Usage` where the words are not the one word `run`; the source is then not read. It answers `ReadFault`
-/// and `WriteFault` where the source or the sink failed, `TooLarge` where there are more bytes than a session may have,
-/// `BadSession` where they are no session, and `NoMemory` where memory is wanting. Nothing is written before a
+/// The words are `run` and its options: `--budget N` or `--budget=N`, the budget of asks that give none, in steps of
+/// elaboration, and `--serial`. It answers `Usage` where they are others; the source is then not read. It answers
+/// `ReadFault` and `WriteFault` where the source or the sink failed, `TooLarge` where there are more bytes than a session
+/// may have, `BadSession` where they are no session, and `NoMemory` where memory is wanting. Nothing is written before a
 /// `ReadFault` or a `NoMemory`.
-pub fn serve<R: Threads + Wait + Sync, S: Source, K: Sink>(
+pub fn serve<R, S, K, G>(
     rt: &R,
     alloc: Global,
     words: &[String],
     source: &mut S,
     sink: &mut K,
+    gate: &G,
 ) -> Status
-    // The bytes of the source are a session, and the sink gained the report of a legal history and of records that are
-    // honest for it.
+where
+    R: Threads + Wait + Sync,
+    S: Source,
+    K: Sink,
+    G: Gate + Sync,
+    // The bytes of the source are a session, and the sink gained the report of one legal history and of records that are
+    // honest for it, whatever the schedule of the clients was.
     ensures headline { result ≡ Status.Done
-        → (bytes : List ℕ) × (text : List ℕ) × AreLeft (S.left source.old) bytes × IsReportOf bytes text × Gains (K.held sink.old) (K.held sink.new) text }
+        → (options : OptionsSaid) × (spoken (map string_bytes words.now) ≡ Spoken.Run options)
+        × (bytes : List ℕ) × (text : List ℕ) × AreLeft (S.left source.old) bytes × IsReportOf options bytes text × Gains (K.held sink.old) (K.held sink.new) text }
 
     // Where an output is written whole, words and bytes are those for which it is written, and the sink gained it.
     ensures said { WritesItsOutput result → (bytes : List ℕ) × (text : List ℕ) × AreLeft (S.left source.old) bytes
@@ -69,9 +82,9 @@ pub fn serve<R: Threads + Wait + Sync, S: Source, K: Sink>(
 
     // Words that ask for nothing leave the source alone.
     ensures usage_only { result ≡ Status.Usage
-        → (spoken (map string_bytes words.now) ≡ usage) × Gains (K.held sink.old) (K.held sink.new) usage_line }
-    ensures usage_where { spoken (map string_bytes words.now) ≡ usage
-        → (source.new ≡ source.old) × ((result ≡ Status.Usage) ⊎ (result ≡ Status.WriteFault)) }
+        → (spoken (map string_bytes words.now) ≡ Spoken.Usage) × Gains (K.held sink.old) (K.held sink.new) usage_line }
+    ensures usage_where { spoken (map string_bytes words.now) ≡ Spoken.Usage
+        → (source.new ≡ source.old) × ((result ≡ Status.Usage) ⊎ (result ≡ Status.WriteFault) ⊎ (result ≡ Status.NoMemory)) }
 
     // A fault has its cause in a count that rose, or stands at its last value.
     ensures read_fault { result ≡ Status.ReadFault → HasRisen (S.faults source.old) (S.faults source.new) × (sink.new ≡ sink.old) }
@@ -88,7 +101,7 @@ pub fn serve<R: Threads + Wait + Sync, S: Source, K: Sink>(
     ensures too_large { result ≡ Status.TooLarge
         → (moved : List ℕ) × (length moved ≡ max_session + 1) × Loses (S.left source.old) (S.left source.new) moved
         × Gains (K.held sink.old) (K.held sink.new) too_large_line }
-    ensures no_memory { result ≡ Status.NoMemory → (spoken (map string_bytes words.now) ≡ run) × (sink.new ≡ sink.old) }
+    ensures no_memory { result ≡ Status.NoMemory → (sink.new ≡ sink.old) × ((source.new ≡ source.old) ⊎ IsRun (map string_bytes words.now)) }
 
     // Where neither end fails, a session is answered, one that has a part which is not answered yet and other bytes are
     // refused, or memory is wanting.
@@ -105,34 +118,41 @@ pub fn serve<R: Threads + Wait + Sync, S: Source, K: Sink>(
         → ¬ HasRisen (S.faults source.old) (S.faults source.new) → ¬ HasRisen (K.faults sink.old) (K.faults sink.new)
         → (result ≡ Status.TooLarge) ⊎ (result ≡ Status.NoMemory) }
 {
-    // One client needs no thread.
-    let _ = rt;
-    served(alloc, words, source, sink)
+    served(rt, alloc, words, source, sink, gate)
 }
 
 /// The same, with one clause that goes by the status.
-fn served<S: Source, K: Sink>(
+fn served<R, S, K, G>(
+    rt: &R,
     alloc: Global,
     words: &[String],
     source: &mut S,
     sink: &mut K,
+    gate: &G,
 ) -> Status
+where
+    R: Threads + Wait + Sync,
+    S: Source,
+    K: Sink,
+    G: Gate + Sync,
     ensures { Ends (map string_bytes words.now) (source.new ≡ source.old) (sink.new ≡ sink.old)
         (record { bytes = S.left source.old; faults = S.faults source.old })
         (record { bytes = S.left source.new; faults = S.faults source.new })
         (record { bytes = K.held sink.old; faults = K.faults sink.old })
         (record { bytes = K.held sink.new; faults = K.faults sink.new }) result }
 {
-    if !is_run(words) {
-        return say(sink, USAGE_LINE, Status::Usage);
-    }
+    let options = match spoken(alloc, words) {
+        Ok(Spoken::Run(options)) => options,
+        Ok(Spoken::Usage) => return say(sink, USAGE_LINE, Status::Usage),
+        Err(AllocError) => return Status::NoMemory,
+    };
     let bytes = match read_session(alloc, source) {
         Ok(bytes) => bytes,
         Err(ReadError::TooLarge) => return say(sink, TOO_LARGE_LINE, Status::TooLarge),
         Err(ReadError::Failed) => return Status::ReadFault,
         Err(ReadError::NoMemory) => return Status::NoMemory,
     };
-    match reply_to(alloc, bytes) {
+    match reply_to(rt, alloc, options, bytes, gate) {
         Ok(reply) => say(sink, &reply.text, reply.status),
         Err(AllocError) => Status::NoMemory,
     }
@@ -149,9 +169,18 @@ fn say<K: Sink>(sink: &mut K, text: &[u8], status: Status) -> Status
     }
 }
 
-/// The report of the session that these bytes are, or the line for bytes that are none.
-fn reply_to(alloc: Global, bytes: Vec<u8>) -> Result<Reply, NoMemory>
-    ensures { IfOk result (λ reply. IsOutputForSession bytes.items reply.status reply.text.items) }
+/// The report of the session that these bytes are, in a run with these options, or the line for bytes that are none.
+fn reply_to<R, G>(
+    rt: &R,
+    alloc: Global,
+    options: Options,
+    bytes: Vec<u8>,
+    gate: &G,
+) -> Result<Reply, NoMemory>
+where
+    R: Threads + Wait + Sync,
+    G: Gate + Sync,
+    ensures { IfOk result (λ reply. IsOutputForSession options bytes.items reply.status reply.text.items) }
 {
     let read = script(alloc, &bytes);
     // The session has its own texts, so its bytes need not stay.
@@ -159,7 +188,7 @@ fn reply_to(alloc: Global, bytes: Vec<u8>) -> Result<Reply, NoMemory>
     match read {
         Ok(script) => match first_later(alloc, &script)? {
             Some(path) => refusal_at(alloc, b"bad session: later at ", path.items()),
-            None => report_of(alloc, script),
+            None => report_of(rt, alloc, options, script, gate),
         },
         Err(BadSession::NotJson) => refusal(Vec::from_slice(alloc, NOT_JSON_LINE)?),
         Err(BadSession::Shape { path }) => {
@@ -171,14 +200,22 @@ fn reply_to(alloc: Global, bytes: Vec<u8>) -> Result<Reply, NoMemory>
 }
 
 /// The report of a session that is answered whole.
-fn report_of(alloc: Global, script: Script) -> Result<Reply, NoMemory>
+fn report_of<R, G>(
+    rt: &R,
+    alloc: Global,
+    options: Options,
+    script: Script,
+    gate: &G,
+) -> Result<Reply, NoMemory>
+where
+    R: Threads + Wait + Sync,
+    G: Gate + Sync,
     requires limits { AreInLimits script.clients }
-    requires nothing_later { first_later script.clients ≡ None }
     requires opening { IsOpening script.files }
     ensures status { IfOk result (λ reply. reply.status ≡ Status.Done) }
-    ensures text { IfOk result (λ reply. (entries : List Entry) × (records : List (List Record)) × Honest script entries records × (reply.text.items ≡ report entries records)) }
+    ensures text { IfOk result (λ reply. (entries : List Entry) × (records : List (List Record)) × Honest options script entries records × (reply.text.items ≡ report entries records)) }
 {
-    let ran = run(alloc, script)?;
+    let ran = run(rt, alloc, options, script, gate)?;
     let entries = told_entries(alloc, &ran.history)?;
     Ok(Reply {
         status: Status::Done,

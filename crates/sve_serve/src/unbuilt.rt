@@ -44,29 +44,29 @@ fn first_unbuilt(commands: &[Command]) -> Option<usize>
     None
 }
 
-/// `/clients/0/<index>/ask`
-fn ask_path(alloc: Global, index: usize) -> Result<List<u8>, NoMemory>
-    ensures { IfOk result (λ path. path ≡ ask_path index) }
+/// `/clients/<client>/<index>/ask`
+fn ask_path(alloc: Global, client: usize, index: usize) -> Result<List<u8>, NoMemory>
+    ensures { IfOk result (λ path. path ≡ ask_path client index) }
 {
-    let mut path = Vec::from_slice(alloc, b"/clients/0/")?;
+    let mut path = Vec::from_slice(alloc, b"/clients/")?;
+    path.extend_from_slice(Buffer::new().format(client).as_bytes())?;
+    path.push(b'/')?;
     path.extend_from_slice(Buffer::new().format(index).as_bytes())?;
     path.extend_from_slice(b"/ask")?;
     Ok(List::of(path))
 }
 
-/// The path of the first part of a session that is not built: a second client, or else the first ask that is not.
+/// The path of the first ask of a session that is not built, from client 1 on.
 ///
 /// # Errors
 /// Only for want of memory.
 pub(crate) fn first_later(alloc: Global, script: &Script) -> Result<Option<List<u8>>, NoMemory>
     ensures { IfOk result (λ path. path ≡ first_later script.now.clients) }
 {
-    match script.clients.items() {
-        [] => Ok(None),
-        [client] => match first_unbuilt(client.items()) {
-            Some(index) => Ok(Some(ask_path(alloc, index)?)),
-            None => Ok(None),
-        },
-        _ => Ok(Some(List::of(Vec::from_slice(alloc, b"/clients/1")?))),
+    for (i, commands) in script.clients.items().iter().enumerate() {
+        if let Some(index) = first_unbuilt(commands.items()) {
+            return Ok(Some(ask_path(alloc, i, index)?));
+        }
     }
+    Ok(None)
 }

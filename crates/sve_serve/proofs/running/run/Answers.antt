@@ -1,20 +1,39 @@
-use Rattle.std.proofs.Common.{◌≡◌, get_or, ap, sym, ◌∙◌, subst}
-use Rattle.sve_history.specs.Histories.{HistoryValue}
-use Rattle.sve_serve.specs.Revisions.{revisions_of}
-use Rattle.sve_serve.specs.Serial.{revisions_after, AreTold}
-use Rattle.sve_serve.proofs.SerialRuns.{alone, session_honest}
+use denote.Param.Send.{sendable}
+use Rattle.std.proofs.Common.{◌≡◌, ℕ, List, Bool, if◌then◌else◌, ap, sym, ◌∙◌, subst}
+use Rattle.std.proofs.Math.Dec.{leb-zero}
+use Rattle.std.specs.Prelude.{nat_le}
+use Rattle.sve_command.specs.declared.commands.Command.{Command}
+use Rattle.sve_store.specs.declared.answer.Answer.{Answer}
+use Rattle.sve_store.specs.declared.answer.Answer.TheVariants.{Done, Spent}
+use Rattle.sve_crossing.proofs.Crossing.{value_send, value_sync}
+use Rattle.sve_runner.specs.declared.terms.Terms.{Terms}
+use Rattle.sve_runner.specs.Honest.{told_entries, files_of, AreHonest}
+use Rattle.sve_runner.specs.Told.{AreFew}
+use Rattle.sve_serve.specs.Answers.{IsAnswerAt}
+use Rattle.sve_serve.specs.Honest.{terms_of}
+use Rattle.sve_serve.proofs.Answered.{are_honest_for}
+use Rattle.sve_serve.proofs.Sessions.{are_few}
 use Rattle.sve_serve.proofs.running.run.Goals as goal
 
-pub run_client-requires-clause-built : goal.run_client-requires-clause-built
-run_client-requires-clause-built c =
-    (alone c.args.script.clients c.items-2.result.now c.requires.limits.some_client c.requires.nothing_later
-    (c.items-2.ensures ∙ c.index-items-0.is ∙ (λ k. get_or (c.items.ensures k) 0 (sym c.items-2.ensures k)))).1
+-- what costs nothing is within every budget
+done_within : (budget : ℕ) (lines : List (List ℕ)) → ◌≡◌ {A = Answer} (Done lines) (if nat_le 0 budget then Done lines else Spent)
+done_within budget lines = sym (ap (λ (b : Bool). if b then Done lines else Spent) (leb-zero budget))
+
+-- threads share the values of keys
+pub run_script-requires-send-K-Value : goal.run_script-requires-send-K-Value
+run_script-requires-send-K-Value g c κs within = search (sendable, value_send) depth 20
+
+pub run_script-requires-sync-K-Value : goal.run_script-requires-sync-K-Value
+run_script-requires-sync-K-Value g c κs within = search (sendable, value_sync) depth 20
+
+pub run_script-requires-clause-few : goal.run_script-requires-clause-few
+run_script-requires-clause-few g c κs within = subst AreFew (sym c.items.ensures) (are_few c.args.script.clients c.requires.limits)
 
 pub returns : goal.returns
-returns c =
-    let commands = c.items-2.result.now in
-    let first : commands ≡ get_or c.args.script.clients 0 commands = c.items-2.ensures ∙ c.index-items-0.is ∙ (λ k. get_or (c.items.ensures k) 0 (sym c.items-2.ensures k)) in
-    let one = (alone c.args.script.clients commands c.requires.limits.some_client c.requires.nothing_later first).0 in
-    let made = ap revisions_of c.history.view_is ∙ c.in_ok-records.ensures.history ∙ ap (λ (h : HistoryValue). revisions_after (revisions_of h) 1 1 commands) c.of-history.ensures in
-    let told = subst (λ (h : HistoryValue). AreTold (revisions_of h) 1 1 commands c.in_ok-records.records) c.of-history.ensures c.in_ok-records.ensures.records in
-    session_honest c.args.script commands _ c.in_ok-records.records c.of.result one made told (c.of.ensures ∙ c.in_ok-vec.ensures.items)
+returns g c =
+    let law = c.answers_are_those_of_the_files.ensures in
+    let files = c.args.script.files in
+    let ran = c.in_ok-ran.ran in
+    let told = are_honest_for _ IsAnswerAt c.terms_of.result files c.items.result.now (told_entries ran.history) ran.records (λ r query budget answer is. law (files_of IsAnswerAt c.terms_of.result files c.items.result.now (told_entries ran.history) r) query budget answer is ∙ done_within budget _) c.in_ok-ran.ensures in
+    subst (λ (terms : Terms). AreHonest IsAnswerAt terms files c.args.script.clients (told_entries ran.history) ran.records) c.terms_of.ensures
+    (subst (λ (clients : List (List Command)). AreHonest IsAnswerAt c.terms_of.result files clients (told_entries ran.history) ran.records) c.items.ensures told)

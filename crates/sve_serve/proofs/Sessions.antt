@@ -1,0 +1,80 @@
+-- What is known of a session that was read, and of the report of its run.
+use Rattle.std.proofs.Common.{◌≡◌, ℕ, ◌<◌, ◌≤◌, ◌^◌, List, [], ◌∷◌, Option, Some, None, if◌then◌else◌, sym, ap, ◌∙◌, subst, arith}
+use Rattle.std.specs.Prelude.{All, Bool, IsTrue, IfOk, Result, Ok, Err, sum_by, length}
+use Rattle.std.proofs.lemmas.List.Elements.{All-weaker}
+use Rattle.sve_text.specs.Files.{opening_files}
+use Rattle.sve_history.specs.Histories.{IsOpening}
+use Rattle.sve_history.proofs.Stamps.{opening_files_are_untouched}
+use Rattle.sve_clients.specs.declared.runs.Order.{Order}
+use Rattle.sve_clients.specs.declared.runs.Order.TheVariants.{AtOnce, InTurn}
+use Rattle.sve_command.specs.declared.commands.Command.{Command}
+use Rattle.sve_command.specs.Sizes.{edit_count}
+use Rattle.sve_script.specs.declared.sessions.Script.{Script}
+use Rattle.sve_script.specs.declared.sessions.TheConstants.{MAX_COMMANDS, MAX_EDITS}
+use Rattle.sve_script.specs.declared.limits.Beyond.{Beyond}
+use Rattle.sve_script.specs.declared.parts.Parts.{Parts}
+use Rattle.sve_script.specs.Limits.{limit_of, AreInLimits}
+use Rattle.sve_script.specs.Session.{within as in_limits, session_from, parts_of, IsSession}
+use Rattle.sve_report.specs.declared.entry.Entry.{Entry}
+use Rattle.sve_report.specs.declared.record.Record.{Record}
+use Rattle.sve_report.specs.Reports.{report}
+use Rattle.sve_runner.specs.Told.{AreFew}
+use Rattle.sve_words.specs.declared.request.Options.{Options}
+use Rattle.sve_serve.specs.Answers.{IsAnswerAt}
+use Rattle.sve_serve.specs.Honest.{run_order, terms_of, Honest}
+use Rattle.sve_serve.specs.declared.serving.Reply.{Reply}
+use Rattle.sve_serve.specs.declared.status.Status.{Status}
+use Rattle.sve_serve.specs.declared.status.Status.TheVariants.{Done}
+use Rattle.sve_serve.specs.Runs.{IsReportOf, IsOutputForSession}
+use Rattle.sve_serve.specs.Unbuilt.{first_later}
+use Rattle.sve_serve.proofs.Alone.{one_report}
+use Rattle.sve_serve.proofs.Answered.{never_behind}
+
+-- ---- its opening files
+
+made_of : (files : List (List ℕ × List ℕ)) (clients : List (List Command)) (beyond : Option Beyond) (script : Script) → in_limits (record { files = files; clients = clients }) beyond ≡ Ok script → script.files ≡ opening_files files
+made_of files clients None script is = let same : record { files = opening_files files; clients = clients } ≡ script = cc in ap (λ (s : Script). s.files) (sym same)
+made_of files clients (Some beyond) script is = absurd (cc)
+
+opened_from : (parts : Result Parts (List ℕ)) (script : Script) → session_from parts ≡ Ok script → IsOpening script.files
+opened_from (Err path) script is = absurd (cc)
+opened_from (Ok parts) script is = subst IsOpening (sym (made_of parts.files parts.clients (limit_of parts.files parts.clients) script is)) (opening_files_are_untouched parts.files)
+
+-- no commit has touched them
+pub session_opening : (bytes : List ℕ) (script : Script) → IsSession bytes script → IsOpening script.files
+session_opening bytes script session = opened_from (parts_of session.0) script session.2
+
+-- ---- its clients
+
+-- their commands and edits can be counted in 32 bits
+pub are_few : (clients : List (List Command)) → AreInLimits clients → AreFew clients
+are_few clients limits = record {
+  commands = omega (arith, limits.few_commands);
+  edits = All-weaker (λ (commands : List Command). All (λ command. edit_count command ≤ MAX_EDITS) commands) (λ (commands : List Command). All (λ command. edit_count command < 2 ^ 32) commands)
+      (λ commands few. All-weaker (λ (command : Command). edit_count command ≤ MAX_EDITS) (λ (command : Command). edit_count command < 2 ^ 32) (λ command le. omega (arith, le)) commands few) clients limits.few_edits;
+}
+
+-- ---- its report
+
+in_turn : (options : Options) → IsTrue options.serial → run_order options ≡ InTurn
+in_turn options serial = ap (λ (b : Bool). if b then InTurn else AtOnce) serial
+
+pub reported : (options : Options) (bytes text : List ℕ) (script : Script) (entries : List Entry) (records : List (List Record)) → IsSession bytes script → first_later script.clients ≡ None
+    → Honest options script entries records → text ≡ report entries records → IsReportOf options bytes text
+reported options bytes text script entries records session whole honest written = record {
+  script = script;
+  entries = entries;
+  records = records;
+  session = session;
+  whole = whole;
+  honest = honest;
+  in_turn = λ serial. never_behind IsAnswerAt (terms_of options) script.files script.clients entries (in_turn options serial) 1 script.clients records honest.told;
+  alone = λ commands one. let same = one_report (terms_of options) script.files script.clients entries commands records one honest in written ∙ (λ k. report (same.1 k) (same.0 k));
+  written = written;
+}
+
+pub reported_output : {E : Type 0} (options : Options) (bytes : List ℕ) (script : Script) (r : Result Reply E) → IsSession bytes script → first_later script.clients ≡ None → IfOk r (λ reply. reply.status ≡ Done)
+    → IfOk r (λ reply. (entries : List Entry) × (records : List (List Record)) × Honest options script entries records × (reply.text.items ≡ report entries records)) → IfOk r (λ reply. IsOutputForSession options bytes reply.status reply.text.items)
+reported_output options bytes script (Ok reply) session whole done (entries, records, honest, written) =
+    subst (λ (s : Status). IsOutputForSession options bytes s reply.text.items) (sym done) (reported options bytes reply.text.items script entries records session whole honest written)
+reported_output options bytes script (Err e) session whole done text = tt
