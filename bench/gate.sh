@@ -28,7 +28,11 @@ sample() {
     done
 }
 
-env "$mark" rt ci --anew "$@" >"$log" 2>&1 &
+anew=()
+if rt help 2>&1 | grep -q -- --anew; then
+    anew=(--anew)
+fi
+env "$mark" rt ci "${anew[@]}" "$@" >"$log" 2>&1 &
 gate=$!
 while kill -0 "$gate" 2>/dev/null; do
     sample
