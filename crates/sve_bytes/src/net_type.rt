@@ -1,5 +1,5 @@
 /// What the directive `` `default_nettype `` may name: a net type, or none at all (IEEE 1800-2017, 22.8).
-#[derive(Clone, Copy, Debug, PartialEq, Eq, PartialOrd, Ord, Hash)]
+#[derive(Clone, Copy, PartialEq, Eq, PartialOrd, Ord, Hash)]
 pub enum NetType {
     /// `wire`, which is in force where no directive says otherwise.
     Wire,

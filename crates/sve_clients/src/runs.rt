@@ -20,7 +20,7 @@ use sve_store::Kinds;
 use sve_text::Files;
 
 /// How clients run.
-#[derive(Clone, Copy, Debug, PartialEq, Eq)]
+#[derive(Clone, Copy, PartialEq, Eq)]
 pub enum Order {
     /// Each on a thread of its own, or on the calling thread where none can be had.
     AtOnce,

@@ -14,7 +14,7 @@ use sve_table::Table;
 use sve_tree::{Arg, ArgumentList};
 
 /// A port and the argument that connects it.
-#[derive(Clone, Copy, Debug, PartialEq, Eq)]
+#[derive(Clone, Copy, PartialEq, Eq)]
 pub struct Pair {
     /// The place of the port among the ports, from 0.
     pub port: usize,

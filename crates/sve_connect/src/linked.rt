@@ -10,7 +10,7 @@ use sve_facts::Port;
 use sve_tree::Expr;
 
 /// What a port is connected to.
-#[derive(Clone, Copy, Debug, PartialEq, Eq)]
+#[derive(Clone, Copy, PartialEq, Eq)]
 pub(crate) enum Link {
     /// No argument so far names it, or stands in its place.
     Free,
@@ -23,7 +23,7 @@ pub(crate) enum Link {
 }
 
 /// An argument `.*`: its token, and its place in the list.
-#[derive(Clone, Copy, Debug)]
+#[derive(Clone, Copy)]
 pub(crate) struct Star {
     pub(crate) token: u32,
     pub(crate) place: usize,

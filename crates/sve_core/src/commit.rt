@@ -7,7 +7,7 @@ use sve_store::Answer;
 use sve_text::Why;
 
 /// What a commit is told (own).
-#[derive(Clone, Copy, Debug, PartialEq, Eq)]
+#[derive(Clone, Copy, PartialEq, Eq)]
 pub enum Commit {
     /// It is entry `r` of the history, and made revision `r`. Entries count from 1.
     Accepted { r: u64 },

@@ -3,7 +3,7 @@ ghost use Rattle.sve_diag.specs.CodeText.{code_text};
 
 /// What a diagnostic says. A clause in brackets is one of IEEE 1800-2017. A code is spelled as its name, a letter for
 /// the part of the work that finds it and two digits: P preprocessing, S syntax, N names, C constants, E elaboration.
-#[derive(Clone, Copy, Debug)]
+#[derive(Clone, Copy)]
 pub enum Code {
     /// A directive that is not of its form, or a backtick without a name (IEEE 1800-2017, 22). Argument: the name, if
     /// there is one.

@@ -6,7 +6,7 @@ use std::alloc::AllocError;
 
 /// How many nodes of expressions may be evaluated, and how many have been. The count stands at its last value, 2^64 - 1, so
 /// that with this as the most there is no bound.
-#[derive(Clone, Copy, Debug)]
+#[derive(Clone, Copy)]
 pub struct Fuel {
     /// The nodes that were counted so far.
     pub used: u64,
@@ -15,7 +15,7 @@ pub struct Fuel {
 }
 
 /// Why nodes were not counted to their end.
-#[derive(Clone, Copy, Debug)]
+#[derive(Clone, Copy)]
 pub enum Halted {
     /// They pass the most that may be evaluated.
     Over,

@@ -4,7 +4,7 @@ ghost use Rattle.sve_formal.specs.Formals.{is_local_keyword, keyword_after};
 use sve_tree::{Mark, ParameterKeyword};
 
 /// A parameter of a module or an interface, as its text tells it.
-#[derive(Clone, Copy, Debug, PartialEq, Eq)]
+#[derive(Clone, Copy, PartialEq, Eq)]
 pub struct Formal {
     /// The number of the token of its name in its chunk.
     pub token: u32,

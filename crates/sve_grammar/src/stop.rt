@@ -4,7 +4,7 @@ ghost use Rattle.sve_grammar.specs.declared.stop.Stop.TheVariants.{NoMemory};
 use std::alloc::{AllocError, AllocFailed};
 
 /// Why a parser gives no tree.
-#[derive(Debug, Drop)]
+#[derive(Drop)]
 pub enum Stop {
     /// The grammar's machine stops here.
     At {

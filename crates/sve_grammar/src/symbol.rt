@@ -1,5 +1,5 @@
 /// The symbols of the grammar that may lead back to themselves. What stands for one of them is one deeper than it (own).
-#[derive(Clone, Copy, Debug, PartialEq, Eq)]
+#[derive(Clone, Copy, PartialEq, Eq)]
 pub enum Symbol {
     /// An expression (IEEE 1800-2017, A.8.3).
     Expression,

@@ -1,5 +1,5 @@
 /// A name that a text declares, before anything is known of its type or its value.
-#[derive(Clone, Copy, Debug, PartialEq, Eq)]
+#[derive(Clone, Copy, PartialEq, Eq)]
 pub struct Heading {
     /// The number of the token of the name in its chunk.
     pub token: u32,

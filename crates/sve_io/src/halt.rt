@@ -1,7 +1,7 @@
 use std::alloc::{AllocError, AllocFailed};
 
 /// Why a call that reads through an object of its caller's did not come to its answer.
-#[derive(Clone, Copy, Debug, PartialEq, Eq)]
+#[derive(Clone, Copy, PartialEq, Eq)]
 pub enum Halt {
     /// The object stopped the call, with a number of its own.
     Stopped(u64),

@@ -3,7 +3,7 @@ ghost use Rattle.std.specs.Prelude.{◌≡◌, ◌≤◌, ◌<◌, ◌+◌, ◌^
 ghost use Rattle.sve_listing.specs.Places.{IsSpotIn};
 
 /// An offset in a text, and its line and its column, both from 1 and columns in bytes.
-#[derive(Clone, Copy, Debug)]
+#[derive(Clone, Copy)]
 pub(crate) struct Spot {
     pub(crate) at: usize,
     pub(crate) line: u32,

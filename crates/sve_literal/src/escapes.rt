@@ -5,7 +5,7 @@ use crate::digits::digit_number;
 use std::alloc::AllocError;
 
 /// How far the bytes of a string literal were read.
-#[derive(Clone, Copy, Debug)]
+#[derive(Clone, Copy)]
 pub(crate) enum Escape {
     /// No escape is open.
     Closed,

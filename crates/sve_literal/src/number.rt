@@ -6,7 +6,7 @@ use crate::digits::{digits_behind, padding, small_number, wide_number};
 use sve_value::{Bit, Bits};
 
 /// Why a based number has no value by its size.
-#[derive(Clone, Copy, Debug, PartialEq, Eq)]
+#[derive(Clone, Copy, PartialEq, Eq)]
 pub enum SizeFault {
     /// Its size is 0.
     Zero,

@@ -6,7 +6,7 @@ use std::alloc::Global;
 use sve_bytes::{NoMemory, Span, is_white_space};
 
 /// A part of a list in parentheses: an actual, or a formal's default.
-#[derive(Clone, Copy, Debug, PartialEq, Eq)]
+#[derive(Clone, Copy, PartialEq, Eq)]
 pub struct Part {
     /// The part without white space at its ends. The white space byte that ends an escaped identifier
     /// belongs to the identifier.

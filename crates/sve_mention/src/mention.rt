@@ -5,7 +5,7 @@ use sve_bytes::NoMemory;
 use sve_tree::Label;
 
 /// A name that stands for something outside of the part of a tree that holds it. Tokens are named by their numbers in the chunk.
-#[derive(Clone, Copy, Debug)]
+#[derive(Clone, Copy)]
 pub enum Mention {
     /// An instantiation names a module or an interface (IEEE 1800-2017, 23.3.2).
     Instance {

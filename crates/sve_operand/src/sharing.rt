@@ -5,7 +5,7 @@ ghost use Rattle.sve_operand.specs.Sharing.{sharing_of, shift_operator, logical_
 use sve_value::{Binary, Bits, Unary};
 
 /// How the operands of a binary operator take part in its context (IEEE 1800-2017, Table 11-21).
-#[derive(Clone, Copy, Debug)]
+#[derive(Clone, Copy)]
 pub(crate) enum Sharing {
     /// Both take the size and the sign of the context.
     Shared,
@@ -18,7 +18,7 @@ pub(crate) enum Sharing {
 }
 
 /// An operator whose right operand stands by itself.
-#[derive(Clone, Copy, Debug)]
+#[derive(Clone, Copy)]
 pub(crate) enum Shift {
     /// `**`.
     Power,
@@ -33,7 +33,7 @@ pub(crate) enum Shift {
 }
 
 /// An operator on the truths of its operands.
-#[derive(Clone, Copy, Debug)]
+#[derive(Clone, Copy)]
 pub(crate) enum Logical {
     /// `&&`.
     And,

@@ -2,7 +2,7 @@ ghost use Rattle.std.specs.Prelude.{◌≡◌, ◌<◌, ◌≤◌, ◌+◌, ℕ,
 ghost use Rattle.sve_package_order.specs.Search.{Leads, found, next_round, settled};
 
 /// How far the search is with a package.
-#[derive(Clone, Copy, Debug, PartialEq, Eq)]
+#[derive(Clone, Copy, PartialEq, Eq)]
 pub(crate) enum Progress {
     /// Its imports in front of this place have rounds, and the one there has none yet.
     Waits {

@@ -3,7 +3,7 @@ use sve_fault::Halted;
 use sve_io::Halt;
 
 /// Why a call that follows a plan did not come to its end.
-#[derive(Clone, Copy, Debug, PartialEq, Eq)]
+#[derive(Clone, Copy, PartialEq, Eq)]
 pub enum Stop {
     /// The plan costs more than may be spent.
     Over,

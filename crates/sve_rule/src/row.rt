@@ -11,7 +11,7 @@ use sve_operand::settled;
 use sve_value::{Bits, concat};
 
 /// Bits one after another, as they stand in a concatenation (IEEE 1800-2017, 11.4.12).
-#[derive(Clone, Copy, Debug)]
+#[derive(Clone, Copy)]
 pub enum Row {
     /// None.
     Empty,

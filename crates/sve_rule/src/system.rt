@@ -10,7 +10,7 @@ use sve_operand::{Operand, settled};
 use sve_value::{Bits, clog2};
 
 /// The system functions of constant expressions (IEEE 1800-2017, 11.7, 20.6.2 and 20.8.1).
-#[derive(Clone, Copy, Debug)]
+#[derive(Clone, Copy)]
 pub enum SystemFunction {
     /// `$bits`: how many bits a type or an expression has.
     Bits,

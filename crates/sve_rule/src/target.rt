@@ -4,7 +4,7 @@ ghost use Rattle.sve_rule.specs.States.{two_state_of, states_of};
 use sve_value::Bits;
 
 /// What an assignment has to know of a type (IEEE 1800-2017, 10.7 and 6.11).
-#[derive(Clone, Copy, Debug)]
+#[derive(Clone, Copy)]
 pub struct Target {
     /// Its bits; 2^64 - 1 where there are as many or more.
     pub width: u64,

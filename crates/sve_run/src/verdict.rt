@@ -1,5 +1,5 @@
 /// What the machine says of a chunk.
-#[derive(Clone, Copy, Debug, PartialEq, Eq)]
+#[derive(Clone, Copy, PartialEq, Eq)]
 pub enum Verdict {
     /// It is in the grammar.
     Accept,

@@ -1,7 +1,7 @@
 //! Places at which a run may be held.
 
 /// A place in an ask of a client. Clients and commands count from 1.
-#[derive(Clone, Copy, Debug, PartialEq, Eq)]
+#[derive(Clone, Copy, PartialEq, Eq)]
 pub enum Point {
     /// The ask has its snapshot, and nothing of it is computed yet.
     Before { client: u32, command: u32 },
@@ -17,7 +17,7 @@ pub trait Gate {
 }
 
 /// A gate that holds nobody.
-#[derive(Clone, Copy, Debug)]
+#[derive(Clone, Copy)]
 pub struct NoGate;
 
 impl Gate for NoGate {

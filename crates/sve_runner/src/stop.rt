@@ -1,7 +1,7 @@
 use std::alloc::AllocError;
 
 /// Why a client left its commands.
-#[derive(Clone, Copy, Debug, PartialEq, Eq)]
+#[derive(Clone, Copy, PartialEq, Eq)]
 pub(crate) enum Stop {
     /// The history has as many entries as it may have.
     Full,

@@ -6,7 +6,7 @@ use sve_clients::Order;
 use sve_text::Mode;
 
 /// What a run says of its asks.
-#[derive(Clone, Copy, Debug)]
+#[derive(Clone, Copy)]
 pub struct Terms {
     /// The budget of an ask that gives none, in steps of elaboration.
     pub budget: u32,

@@ -20,7 +20,7 @@ pub enum Found<'a> {
 }
 
 /// The kind of import through which a name is found (IEEE 1800-2017, 26.3).
-#[derive(Clone, Copy, Debug, PartialEq, Eq)]
+#[derive(Clone, Copy, PartialEq, Eq)]
 pub enum Through {
     /// An import of this name.
     Name,

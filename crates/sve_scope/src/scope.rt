@@ -42,7 +42,7 @@ impl Drop for Scope {
 }
 
 /// How a declaration, or an import of one name, comes into a scope.
-#[derive(Clone, Copy, Debug, PartialEq, Eq)]
+#[derive(Clone, Copy, PartialEq, Eq)]
 pub enum Entered {
     /// There was nothing of its name, and it stands.
     New,

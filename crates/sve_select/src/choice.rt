@@ -7,7 +7,7 @@ use sve_rule::Judged;
 use sve_value::Bits;
 
 /// What the brackets of a select say (IEEE 1800-2017, 11.5.1). The tokens are the first ones of bounds and widths that can be a fault.
-#[derive(Clone, Copy, Debug)]
+#[derive(Clone, Copy)]
 pub enum Choice {
     /// One place: `[i]`.
     Place(Bits),

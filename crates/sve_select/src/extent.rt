@@ -15,7 +15,7 @@ use sve_types::{Base, Range, Ty, width};
 const MAX_PLACES: u128 = 65_536;
 
 /// How much a type with packed dimensions holds.
-#[derive(Clone, Copy, Debug)]
+#[derive(Clone, Copy)]
 pub struct Extent {
     /// The places of its packed dimensions together; 2^64 - 1 where there are as many or more.
     pub places: u64,

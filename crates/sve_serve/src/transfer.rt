@@ -10,7 +10,7 @@ use sve_io::{Failed, Got, Sink, Source};
 pub const MAX_SESSION_LEN: usize = 16_777_216;
 
 /// Why a source was not read to its end.
-#[derive(Clone, Copy, Debug, PartialEq, Eq)]
+#[derive(Clone, Copy, PartialEq, Eq)]
 pub enum ReadError {
     /// The source failed.
     Failed,

@@ -48,7 +48,7 @@ impl Edit {
 }
 
 /// What an ask wants where a newer revision comes while it is answered (own).
-#[derive(Clone, Copy, Debug, PartialEq, Eq)]
+#[derive(Clone, Copy, PartialEq, Eq)]
 pub enum Mode {
     /// It may be cancelled.
     Latest,

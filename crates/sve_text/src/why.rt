@@ -1,13 +1,13 @@
 //! What a refused commit is told.
 /// Why a commit is refused: one of its edits, counted from 1, and what speaks against it.
-#[derive(Clone, Copy, Debug, PartialEq, Eq)]
+#[derive(Clone, Copy, PartialEq, Eq)]
 pub struct Refusal {
     pub edit: u32,
     pub why: Why,
 }
 
 /// What speaks against an edit (own). Where several of these do, the one that stands first here is told.
-#[derive(Clone, Copy, Debug, PartialEq, Eq)]
+#[derive(Clone, Copy, PartialEq, Eq)]
 pub enum Why {
     /// A drop or a splice names a file that is not there.
     NoFile,

@@ -1,6 +1,6 @@
 /// A reserved word of SystemVerilog (IEEE 1800-2017, Annex B). Each variant is `Kw` and the word, without its
 /// underscores and with a capital after each.
-#[derive(Clone, Copy, Debug, PartialEq, Eq)]
+#[derive(Clone, Copy, PartialEq, Eq)]
 pub enum Keyword {
     /// `accept_on`.
     KwAcceptOn,

@@ -2,7 +2,7 @@ use crate::Keyword;
 
 /// The kind of a token (IEEE 1800-2017, clause 5): a class of spellings, one keyword, or one operator. Two tokens are of
 /// one kind exactly where their kinds are equal.
-#[derive(Clone, Copy, Debug, PartialEq, Eq)]
+#[derive(Clone, Copy, PartialEq, Eq)]
 pub enum Kind {
     /// An identifier, simple or escaped (5.6).
     Identifier,

@@ -66,7 +66,7 @@ impl DataType {
 }
 
 /// An integer type with a width of its own, and its sign (6.11).
-#[derive(Clone, Copy, Debug)]
+#[derive(Clone, Copy)]
 pub struct AtomType {
     /// The type's keyword.
     pub keyword: Mark<AtomKeyword>,

@@ -122,7 +122,7 @@ impl Drop for Import {
 }
 
 /// A name of a package, or all of its names (26.3).
-#[derive(Clone, Copy, Debug)]
+#[derive(Clone, Copy)]
 pub enum ImportItem {
     /// `p::n`.
     Name {
@@ -164,7 +164,7 @@ impl Drop for Modport {
 }
 
 /// A member of a modport (25.5).
-#[derive(Clone, Copy, Debug)]
+#[derive(Clone, Copy)]
 pub struct ModportMember {
     /// The direction; where none is written, that of the member before.
     pub direction: Option<Mark<Dir>>,

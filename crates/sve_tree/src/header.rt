@@ -140,7 +140,7 @@ impl Port {
 }
 
 /// Whether a port is a variable or a net (23.2.2.3).
-#[derive(Clone, Copy, Debug)]
+#[derive(Clone, Copy)]
 pub enum PortKind {
     /// A variable.
     Variable {

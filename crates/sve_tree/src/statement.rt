@@ -989,7 +989,7 @@ impl Formal {
 }
 
 /// How a formal argument is passed (13.5).
-#[derive(Clone, Copy, Debug)]
+#[derive(Clone, Copy)]
 pub enum FormalDirection {
     /// In, out or both.
     Value {

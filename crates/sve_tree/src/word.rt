@@ -3,7 +3,7 @@ ghost use Rattle.sve_tree.specs.Shape.{first_token_of};
 ghost use Rattle.sve_tree.specs.Words.{scoped_name_tree, package_of};
 
 /// A token that says which of several things is meant: an operator, a direction, a keyword of a set.
-#[derive(Clone, Copy, Debug)]
+#[derive(Clone, Copy)]
 pub struct Mark<K> {
     /// What the token says.
     pub kind: K,
@@ -12,7 +12,7 @@ pub struct Mark<K> {
 }
 
 /// Whether numbers are read as signed (IEEE 1800-2017, 6.8).
-#[derive(Clone, Copy, Debug, PartialEq, Eq)]
+#[derive(Clone, Copy, PartialEq, Eq)]
 pub enum Sign {
     /// `signed`.
     Signed,
@@ -21,7 +21,7 @@ pub enum Sign {
 }
 
 /// How long variables live (6.21).
-#[derive(Clone, Copy, Debug, PartialEq, Eq)]
+#[derive(Clone, Copy, PartialEq, Eq)]
 pub enum Lifetime {
     /// `automatic`.
     Automatic,
@@ -30,7 +30,7 @@ pub enum Lifetime {
 }
 
 /// The net types that a declaration names (6.6).
-#[derive(Clone, Copy, Debug, PartialEq, Eq)]
+#[derive(Clone, Copy, PartialEq, Eq)]
 pub enum Net {
     /// `wire`.
     Wire,
@@ -57,7 +57,7 @@ pub enum Net {
 }
 
 /// The keywords of the integer types with a width of their own (6.11).
-#[derive(Clone, Copy, Debug, PartialEq, Eq)]
+#[derive(Clone, Copy, PartialEq, Eq)]
 pub enum AtomKeyword {
     /// `byte`.
     Byte,
@@ -74,7 +74,7 @@ pub enum AtomKeyword {
 }
 
 /// The keywords of the integer types of as many bits as their packed dimensions say (6.11).
-#[derive(Clone, Copy, Debug, PartialEq, Eq)]
+#[derive(Clone, Copy, PartialEq, Eq)]
 pub enum VectorKeyword {
     /// `bit`.
     Bit,
@@ -85,7 +85,7 @@ pub enum VectorKeyword {
 }
 
 /// An integer type's keyword (6.11).
-#[derive(Clone, Copy, Debug, PartialEq, Eq)]
+#[derive(Clone, Copy, PartialEq, Eq)]
 pub enum IntegerKeyword {
     /// One with a width of its own.
     Atom(AtomKeyword),
@@ -94,7 +94,7 @@ pub enum IntegerKeyword {
 }
 
 /// Whether a declaration makes a parameter or a local one (6.20).
-#[derive(Clone, Copy, Debug, PartialEq, Eq)]
+#[derive(Clone, Copy, PartialEq, Eq)]
 pub enum ParameterKeyword {
     /// `parameter`.
     Parameter,
@@ -103,7 +103,7 @@ pub enum ParameterKeyword {
 }
 
 /// The operators before one operand (11.3).
-#[derive(Clone, Copy, Debug, PartialEq, Eq)]
+#[derive(Clone, Copy, PartialEq, Eq)]
 pub enum UnaryOperator {
     /// `+`.
     Plus,
@@ -130,7 +130,7 @@ pub enum UnaryOperator {
 }
 
 /// The operators between two operands whose chains are grouped from the left, those that bind tightest first (Table 11-2).
-#[derive(Clone, Copy, Debug, PartialEq, Eq)]
+#[derive(Clone, Copy, PartialEq, Eq)]
 pub enum BinaryOperator {
     /// `**`.
     Power,
@@ -189,7 +189,7 @@ pub enum BinaryOperator {
 }
 
 /// The operators of implication, grouped from the right (11.4.7).
-#[derive(Clone, Copy, Debug, PartialEq, Eq)]
+#[derive(Clone, Copy, PartialEq, Eq)]
 pub enum ImplicationOperator {
     /// `->`.
     Implies,
@@ -198,7 +198,7 @@ pub enum ImplicationOperator {
 }
 
 /// The operators of assignment (11.4.1 and 10.4).
-#[derive(Clone, Copy, Debug, PartialEq, Eq)]
+#[derive(Clone, Copy, PartialEq, Eq)]
 pub enum AssignmentOperator {
     /// `=`.
     Assign,
@@ -231,7 +231,7 @@ pub enum AssignmentOperator {
 }
 
 /// The operators that count up or down by one (11.4.2).
-#[derive(Clone, Copy, Debug, PartialEq, Eq)]
+#[derive(Clone, Copy, PartialEq, Eq)]
 pub enum StepOperator {
     /// `++`.
     Increment,
@@ -240,7 +240,7 @@ pub enum StepOperator {
 }
 
 /// A package in front of a name of it: `p::` (26.3, A.9.3).
-#[derive(Clone, Copy, Debug)]
+#[derive(Clone, Copy)]
 pub struct PackageScope {
     /// The package.
     pub name: u32,
@@ -249,7 +249,7 @@ pub struct PackageScope {
 }
 
 /// A name, or a package and a name of it (26.3): `n` or `p::n`.
-#[derive(Clone, Copy, Debug)]
+#[derive(Clone, Copy)]
 pub struct ScopedName {
     /// The package, where one is written.
     pub scope: Option<PackageScope>,
@@ -280,7 +280,7 @@ impl ScopedName {
 }
 
 /// A colon and the name of a block, after `begin` or an end word (9.3.4).
-#[derive(Clone, Copy, Debug)]
+#[derive(Clone, Copy)]
 pub struct Label {
     /// `:`.
     pub colon: u32,
@@ -289,7 +289,7 @@ pub struct Label {
 }
 
 /// How many cases or conditions may hold (12.4.2 and 12.5.3).
-#[derive(Clone, Copy, Debug, PartialEq, Eq)]
+#[derive(Clone, Copy, PartialEq, Eq)]
 pub enum Uniqueness {
     /// `unique`.
     Unique,
@@ -300,7 +300,7 @@ pub enum Uniqueness {
 }
 
 /// Which bits a case statement takes no notice of (12.5).
-#[derive(Clone, Copy, Debug, PartialEq, Eq)]
+#[derive(Clone, Copy, PartialEq, Eq)]
 pub enum CaseKeyword {
     /// `case`.
     Case,
@@ -311,7 +311,7 @@ pub enum CaseKeyword {
 }
 
 /// A loop with its condition or count at the front (12.7).
-#[derive(Clone, Copy, Debug, PartialEq, Eq)]
+#[derive(Clone, Copy, PartialEq, Eq)]
 pub enum LoopKeyword {
     /// `while`.
     While,
@@ -320,7 +320,7 @@ pub enum LoopKeyword {
 }
 
 /// The procedures that begin with an event control (9.2).
-#[derive(Clone, Copy, Debug, PartialEq, Eq)]
+#[derive(Clone, Copy, PartialEq, Eq)]
 pub enum ClockedKeyword {
     /// `always`.
     Always,
@@ -329,7 +329,7 @@ pub enum ClockedKeyword {
 }
 
 /// The procedures without an event control (9.2).
-#[derive(Clone, Copy, Debug, PartialEq, Eq)]
+#[derive(Clone, Copy, PartialEq, Eq)]
 pub enum PlainKeyword {
     /// `always_comb`.
     AlwaysComb,
@@ -340,7 +340,7 @@ pub enum PlainKeyword {
 }
 
 /// Which change of a value is an event (9.4.2).
-#[derive(Clone, Copy, Debug, PartialEq, Eq)]
+#[derive(Clone, Copy, PartialEq, Eq)]
 pub enum Edge {
     /// `posedge`.
     Posedge,
@@ -351,7 +351,7 @@ pub enum Edge {
 }
 
 /// What stands between two events (9.4.2.1).
-#[derive(Clone, Copy, Debug, PartialEq, Eq)]
+#[derive(Clone, Copy, PartialEq, Eq)]
 pub enum EventSeparator {
     /// `or`.
     Or,
@@ -360,7 +360,7 @@ pub enum EventSeparator {
 }
 
 /// The keywords that begin a module (23.2).
-#[derive(Clone, Copy, Debug, PartialEq, Eq)]
+#[derive(Clone, Copy, PartialEq, Eq)]
 pub enum ModuleKeyword {
     /// `module`.
     Module,

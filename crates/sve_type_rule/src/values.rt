@@ -7,7 +7,7 @@ use sve_table::Table;
 use sve_value::Bits;
 
 /// The value of the last name of an enumeration (IEEE 1800-2017, 6.19).
-#[derive(Clone, Copy, Debug)]
+#[derive(Clone, Copy)]
 pub enum Last {
     /// There is no name yet.
     First,

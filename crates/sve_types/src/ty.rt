@@ -8,7 +8,7 @@ use sve_bytes::{List, Name, NoMemory};
 use sve_value::Bits;
 
 /// The integer types with a width of their own (IEEE 1800-2017, 6.11).
-#[derive(Clone, Copy, Debug, PartialEq, Eq)]
+#[derive(Clone, Copy, PartialEq, Eq)]
 pub enum Atom {
     /// `byte`: 8 bits of two states.
     Byte,
@@ -25,7 +25,7 @@ pub enum Atom {
 }
 
 /// The integer types of one bit, or of as many as their packed dimensions have places (6.11).
-#[derive(Clone, Copy, Debug, PartialEq, Eq)]
+#[derive(Clone, Copy, PartialEq, Eq)]
 pub enum Vec_ {
     /// `bit`: two states.
     Bit,
@@ -36,7 +36,7 @@ pub enum Vec_ {
 }
 
 /// A dimension `[left:right]`, of either order (7.4.1 and 7.4.2).
-#[derive(Clone, Copy, Debug, PartialEq, Eq)]
+#[derive(Clone, Copy, PartialEq, Eq)]
 pub struct Range {
     /// The leftmost place.
     pub left: i32,

@@ -8,7 +8,7 @@ use sve_grammar::{is_kind, is_one_of};
 use sve_token::{Keyword, Kind, Token};
 
 /// A chunk of a file: some of its tokens, one behind the other.
-#[derive(Clone, Copy, Debug)]
+#[derive(Clone, Copy)]
 pub struct Chunk {
     /// The number of its first token in the file, from 0.
     pub from: u32,

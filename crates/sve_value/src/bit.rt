@@ -4,7 +4,7 @@ ghost use Rattle.sve_value.specs.Bitwise.{not_bit, and_bit, or_bit, xnor_bit};
 ghost use Rattle.sve_value.specs.Truths.{truth_bit};
 
 /// One of the four states of a bit (IEEE 1800-2017, 6.3.1).
-#[derive(Clone, Copy, PartialEq, Eq, Debug)]
+#[derive(Clone, Copy, PartialEq, Eq)]
 pub enum Bit {
     /// A logic zero, or a false condition.
     Zero,

@@ -12,7 +12,7 @@ use std::marker::Model;
 ///
 /// A clause sees a `Bits` as the record of its sign and of the list of its bits, the least significant first.
 /// The fields are there to be read; make a value by [`Bits::number`], [`Bits::filled`] and [`Bits::shift_in`].
-#[derive(Clone, Copy, Debug)]
+#[derive(Clone, Copy)]
 pub struct Bits {
     /// The number of bits, 1 to 128.
     pub width: u32,

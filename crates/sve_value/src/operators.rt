@@ -1,5 +1,5 @@
 /// A unary operator, by its name in IEEE 1800-2017, Table 11-1.
-#[derive(Clone, Copy, PartialEq, Eq, Debug)]
+#[derive(Clone, Copy, PartialEq, Eq)]
 pub enum Unary {
     /// `+` (11.4.3).
     Plus,
@@ -24,7 +24,7 @@ pub enum Unary {
 }
 
 /// A binary operator, by its name in IEEE 1800-2017, Table 11-1.
-#[derive(Clone, Copy, PartialEq, Eq, Debug)]
+#[derive(Clone, Copy, PartialEq, Eq)]
 pub enum Binary {
     /// `+` (11.4.3).
     Add,

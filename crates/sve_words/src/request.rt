@@ -1,5 +1,5 @@
 /// The options of a run.
-#[derive(Clone, Copy, Debug, PartialEq, Eq)]
+#[derive(Clone, Copy, PartialEq, Eq)]
 pub struct Options {
     /// The budget of asks that give none, in steps of elaboration, from 1 to 100,000,000, where it is said.
     pub budget: Option<u32>,
@@ -8,7 +8,7 @@ pub struct Options {
 }
 
 /// What the words of the command line ask for.
-#[derive(Clone, Copy, Debug, PartialEq, Eq)]
+#[derive(Clone, Copy, PartialEq, Eq)]
 pub enum Spoken {
     /// A run with these options.
     Run(Options),
