@@ -10,9 +10,14 @@ use std::sync::Arc;
 use sve_bytes::{List, NoMemory};
 
 /// A text that contracts see as its bytes. Texts share in memory what one was made of another.
-#[derive(Drop)]
 pub struct Text {
     tree: Tree,
+}
+
+impl Drop for Text {
+    fn drop(self) {
+        let Text { tree: _ } = self;
+    }
 }
 
 impl Model for Text {
