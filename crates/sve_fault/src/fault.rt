@@ -9,12 +9,17 @@ use sve_diag::{Code, Note};
 const MAX_ARGUMENT: usize = 1024;
 
 /// What is wrong with a constant expression.
-#[derive(Drop)]
 pub struct Fault {
     /// The token of the expression at which it stands, by which faults are ordered, from 0.
     pub token: u32,
     /// What is said of it.
     pub said: Said,
+}
+
+impl Drop for Fault {
+    fn drop(self) {
+        let Fault { token: _, said: _ } = self;
+    }
 }
 
 /// What is said of a fault.
@@ -71,8 +76,8 @@ impl Fault {
     pub fn note(self, file: &Name, chunk: u32) -> Result<Option<Note>, NoMemory>
         ensures { IfOk result (λ n. n ≡ note_of file.now chunk self) }
     {
-        let token = self.token;
-        match self.said {
+        let Fault { token, said } = self;
+        match said {
             Said::Nothing => Ok(None),
             Said::Here { code, arg } => Ok(Some(Note {
                 file: file.copy()?,
