@@ -18,12 +18,8 @@ pub fn unary(alloc: Global, operator: Unary, a: Operand) -> Result<Operand, Allo
     if !takes_context(operator) {
         return Ok(settled(sve_value::unary(operator, a.own_value())));
     }
-    let Operand {
-        width,
-        signed,
-        pending,
-    } = a;
-    let operand = Box::new(alloc, pending)?;
+    let (width, signed) = (a.width, a.signed);
+    let operand = Box::new(alloc, a.into_pending())?;
     Ok(Operand {
         width,
         signed,
@@ -45,12 +41,12 @@ pub fn binary(
             let (width, signed) = (a.width.max(b.width), a.signed & b.signed);
             let link = Link::Shared {
                 operator,
-                right: b.pending,
+                right: b.into_pending(),
             };
             Ok(Operand {
                 width,
                 signed,
-                pending: behind(alloc, a.pending, link)?,
+                pending: behind(alloc, a.into_pending(), link)?,
             })
         }
         Sharing::Compared => {
@@ -64,10 +60,11 @@ pub fn binary(
                 operator,
                 right: b.own_value(),
             };
+            let (width, signed) = (a.width, a.signed);
             Ok(Operand {
-                width: a.width,
-                signed: a.signed,
-                pending: behind(alloc, a.pending, link)?,
+                width,
+                signed,
+                pending: behind(alloc, a.into_pending(), link)?,
             })
         }
         Sharing::Separate(operator) => { Ok(settled(operator.apply(a.own_value(), b.own_value()))) }
@@ -100,8 +97,8 @@ pub fn choice(alloc: Global, c: Operand, a: Operand, b: Operand) -> Result<Opera
 {
     let condition = c.own_value();
     let (width, signed) = (a.width.max(b.width), a.signed & b.signed);
-    let chosen = Box::new(alloc, a.pending)?;
-    let otherwise = Box::new(alloc, b.pending)?;
+    let chosen = Box::new(alloc, a.into_pending())?;
+    let otherwise = Box::new(alloc, b.into_pending())?;
     Ok(Operand {
         width,
         signed,
