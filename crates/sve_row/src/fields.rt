@@ -1,7 +1,7 @@
 //! The fields of a row.
 use std::alloc::{AllocError, Global};
 use std::fmt::Write;
-use sve_bytes::{BadName, Name, NoMemory};
+use sve_bytes::{BadName, Name, NetType, NoMemory};
 
 /// The field in front of the first ` | `, and what stands behind it; where there is none, the row and nothing.
 pub fn field(row: &str) -> (&str, &str) {
@@ -19,11 +19,7 @@ pub fn parts_of<'a>(
     text: &'a str,
     separator: &str,
 ) -> Result<Vec<&'a str>, NoMemory> {
-    let mut parts = Vec::new(alloc);
-    for part in text.split(separator) {
-        parts.push(part)?;
-    }
-    Ok(parts)
+    text.split(separator).collect(alloc)
 }
 
 /// The fields of a row, with ` | ` between them.
@@ -33,11 +29,7 @@ pub fn fields_of(alloc: Global, row: &str) -> Result<Vec<&str>, NoMemory> {
 
 /// The words of a row, with blanks between them.
 pub fn words_of(alloc: Global, row: &str) -> Result<Vec<&str>, NoMemory> {
-    let mut words = Vec::new(alloc);
-    for word in row.split_whitespace() {
-        words.push(word)?;
-    }
-    Ok(words)
+    row.split_whitespace().collect(alloc)
 }
 
 /// The number that a word writes with decimal digits.
@@ -60,6 +52,16 @@ pub fn add_number(out: &mut String, number: usize) -> Result<(), NoMemory> {
     write!(out, "{number}")
 }
 
+/// What stands beside a word in a table.
+pub fn beside<T: Copy>(table: &[(&str, T)], word: &str) -> Option<T> {
+    for (other, meant) in table {
+        if *other == word {
+            return Some(*meant);
+        }
+    }
+    None
+}
+
 /// Yes or no.
 pub fn yes(holds: bool) -> &'static str {
     if holds { "yes" } else { "no" }
@@ -71,5 +73,22 @@ pub fn name_of(alloc: Global, bytes: &[u8]) -> Result<Option<Name>, NoMemory> {
         Ok(name) => Ok(Some(name)),
         Err(BadName::NoMemory) => Err(AllocError),
         Err(BadName::Empty | BadName::TooLong(_)) => Ok(None),
+    }
+}
+
+/// What a net type is called.
+pub fn net_type_name(net_type: NetType) -> &'static str {
+    match net_type {
+        NetType::Wire => "Wire",
+        NetType::Tri => "Tri",
+        NetType::Uwire => "Uwire",
+        NetType::Wand => "Wand",
+        NetType::Wor => "Wor",
+        NetType::Triand => "Triand",
+        NetType::Trior => "Trior",
+        NetType::Tri0 => "Tri0",
+        NetType::Tri1 => "Tri1",
+        NetType::Trireg => "Trireg",
+        NetType::None => "None",
     }
 }

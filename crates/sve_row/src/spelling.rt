@@ -7,7 +7,7 @@ use sve_bytes::NoMemory;
 const MOST: u32 = 100_000;
 
 /// What the bytes so far ask of the next one.
-#[derive(Drop)]
+#[derive(Clone, Copy)]
 enum Reading {
     /// It stands for itself, or is a backslash.
     Plain,
@@ -26,47 +26,74 @@ enum Reading {
 /// The bytes that a field of a row spells.
 pub fn decoded(alloc: Global, field: &str) -> Result<Vec<u8>, NoMemory> {
     let mut out = Vec::new(alloc);
+    decode(&mut out, field)?;
+    Ok(out)
+}
+
+/// Adds the bytes that a field spells.
+fn decode(out: &mut Vec<u8>, field: &str) -> Result<(), NoMemory> {
     let mut reading = Reading::Plain;
     for byte in field.bytes() {
-        reading = match reading {
-            Reading::Plain => plain(&mut out, byte)?,
-            Reading::Escaped => escaped(&mut out, byte)?,
-            Reading::FirstDigit => Reading::SecondDigit(digit(byte)),
-            Reading::SecondDigit(high) => {
-                out.push(high.wrapping_mul(16).wrapping_add(digit(byte)))?;
-                Reading::Plain
-            }
-            Reading::Count(so_far) if byte == b')' => Reading::Repeated(so_far.min(MOST)),
-            Reading::Count(so_far) => {
-                Reading::Count(so_far.wrapping_mul(10).wrapping_add(u32::from(digit(byte))))
-            }
-            Reading::Repeated(times) => {
-                for _ in 0..times {
-                    out.push(byte)?;
-                }
-                Reading::Plain
-            }
-        };
+        reading = read(out, reading, byte)?;
     }
-    Ok(out)
+    Ok(())
+}
+
+/// Reads a byte, and says what is asked of the next one.
+fn read(out: &mut Vec<u8>, reading: Reading, byte: u8) -> Result<Reading, NoMemory> {
+    match reading {
+        Reading::Plain => plain(out, byte),
+        Reading::Escaped => escaped(out, byte),
+        Reading::FirstDigit => Ok(Reading::SecondDigit(digit(byte))),
+        Reading::SecondDigit(high) => added(out, high.wrapping_mul(16).wrapping_add(digit(byte))),
+        Reading::Count(so_far) => Ok(counted(so_far, byte)),
+        Reading::Repeated(times) => repeated(out, times, byte),
+    }
+}
+
+/// Adds a byte, behind which the next one stands for itself.
+fn added(out: &mut Vec<u8>, byte: u8) -> Result<Reading, NoMemory> {
+    out.push(byte)?;
+    Ok(Reading::Plain)
 }
 
 fn plain(out: &mut Vec<u8>, byte: u8) -> Result<Reading, NoMemory> {
     if byte == b'\\' {
         return Ok(Reading::Escaped);
     }
-    out.push(byte)?;
-    Ok(Reading::Plain)
+    added(out, byte)
 }
 
 fn escaped(out: &mut Vec<u8>, byte: u8) -> Result<Reading, NoMemory> {
     match byte {
-        b'x' => return Ok(Reading::FirstDigit),
-        b'(' => return Ok(Reading::Count(0)),
-        b'n' => out.push(b'\n')?,
-        b'r' => out.push(b'\r')?,
-        b't' => out.push(b'\t')?,
-        _ => out.push(byte)?,
+        b'x' => Ok(Reading::FirstDigit),
+        b'(' => Ok(Reading::Count(0)),
+        _ => added(out, meant(byte)),
+    }
+}
+
+/// The byte that one stands for behind a backslash.
+fn meant(byte: u8) -> u8 {
+    match byte {
+        b'n' => b'\n',
+        b'r' => b'\r',
+        b't' => b'\t',
+        _ => byte,
+    }
+}
+
+/// What a byte of a count, or the one behind it, asks of the next.
+fn counted(so_far: u32, byte: u8) -> Reading {
+    if byte == b')' {
+        return Reading::Repeated(so_far.min(MOST));
+    }
+    Reading::Count(so_far.wrapping_mul(10).wrapping_add(u32::from(digit(byte))))
+}
+
+/// Adds a byte so many times.
+fn repeated(out: &mut Vec<u8>, times: u32, byte: u8) -> Result<Reading, NoMemory> {
+    for _ in 0..times {
+        out.push(byte)?;
     }
     Ok(Reading::Plain)
 }
@@ -80,26 +107,38 @@ fn digit(byte: u8) -> u8 {
     }
 }
 
-/// The digits of numbers below 16.
-const DIGITS: [char; 16] = [
-    '0', '1', '2', '3', '4', '5', '6', '7', '8', '9', 'a', 'b', 'c', 'd', 'e', 'f',
-];
+/// The digit of a number below 16.
+fn digit_of(number: u8) -> char {
+    if number < 10 {
+        char::from(b'0'.wrapping_add(number))
+    } else {
+        char::from(b'a'.wrapping_add(number.wrapping_sub(10)))
+    }
+}
+
+/// Adds the number of a byte behind `\x`.
+fn spell_number(out: &mut String, byte: u8) -> Result<(), NoMemory> {
+    out.push_str("\\x")?;
+    out.push(digit_of(byte / 16))?;
+    out.push(digit_of(byte % 16))
+}
+
+/// Adds the spelling of a byte.
+fn spell_byte(out: &mut String, byte: u8) -> Result<(), NoMemory> {
+    match byte {
+        b'\n' => out.push_str("\\n"),
+        b'\r' => out.push_str("\\r"),
+        b'\t' => out.push_str("\\t"),
+        b'\\' => out.push_str("\\\\"),
+        b' '..=b'~' => out.push(char::from(byte)),
+        _ => spell_number(out, byte),
+    }
+}
 
 /// Adds the spelling of these bytes.
 pub fn spell(out: &mut String, bytes: &[u8]) -> Result<(), NoMemory> {
     for byte in bytes {
-        match *byte {
-            b'\n' => out.push_str("\\n")?,
-            b'\r' => out.push_str("\\r")?,
-            b'\t' => out.push_str("\\t")?,
-            b'\\' => out.push_str("\\\\")?,
-            b' '..=b'~' => out.push(char::from(*byte))?,
-            _ => {
-                out.push_str("\\x")?;
-                out.push(DIGITS[(*byte / 16) as usize])?;
-                out.push(DIGITS[(*byte % 16) as usize])?;
-            }
-        }
+        spell_byte(out, *byte)?;
     }
     Ok(())
 }
