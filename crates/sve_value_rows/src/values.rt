@@ -7,7 +7,7 @@
 use std::alloc::Global;
 use std::fmt::Write;
 use sve_bytes::NoMemory;
-use sve_row::{Table, integer_of, spell, value_of, width_of, word};
+use sve_row::{Table, add_number, beside, integer_of, spell, value_of, width_of, word};
 use sve_value::{
     Binary, Bit, Bits, Unary, binary, choose, clog2, concat, print, select, truth, unary,
 };
@@ -48,7 +48,7 @@ fn result_of(kind: &str, row: &str) -> Option<Bits> {
 /// The value of an operator before one operand.
 fn prefixed(row: &str) -> Option<Bits> {
     let (operator, a) = word(row);
-    let operator = unary_operator(operator)?;
+    let operator = beside(UNARY, operator)?;
     let a = value_of(a)?;
     Some(unary(operator, a))
 }
@@ -109,7 +109,7 @@ fn value_or_binary(row: &str) -> Option<Bits> {
         return Some(a);
     }
     let (operator, b) = word(rest);
-    applied(binary_operator(operator)?, a, value_of(b)?)
+    applied(beside(BINARY, operator)?, a, value_of(b)?)
 }
 
 /// The value of an operator, where its operands suit it.
@@ -153,34 +153,71 @@ fn chosen(condition: Bits, a: Bits, b: Bits) -> Option<Bits> {
 /// The answer to a row `parts`.
 fn parts_row(alloc: Global, row: &str) -> Result<Option<String>, NoMemory> {
     let (first, second) = word(row);
-    let Some(a) = value_of(first) else {
-        return Ok(None);
-    };
+    match value_of(first) {
+        Some(a) => Ok(Some(parts_text(alloc, a, second)?)),
+        None => Ok(None),
+    }
+}
+
+/// What a value gives to be read, and whether a second one is the same.
+fn parts_text(alloc: Global, a: Bits, second: &str) -> Result<String, NoMemory> {
     let mut out = String::new(alloc);
-    let width = a.width();
-    write!(out, "{width} bits")?;
-    if a.is_signed() {
-        out.push_str(", signed")?;
-    }
-    if a.is_negative() {
-        out.push_str(", negative")?;
-    }
+    add_size(&mut out, a)?;
+    add_numbers(&mut out, a)?;
+    add_bits(&mut out, a)?;
+    add_same(&mut out, a, second)?;
+    Ok(out)
+}
+
+/// Adds the width and the sign.
+fn add_size(out: &mut String, a: Bits) -> Result<(), NoMemory> {
+    add_number(out, a.width() as usize)?;
+    out.push_str(" bits")?;
+    out.push_str(if a.is_signed() { ", signed" } else { "" })?;
+    out.push_str(if a.is_negative() { ", negative" } else { "" })
+}
+
+/// Adds the numbers that a value is.
+fn add_numbers(out: &mut String, a: Bits) -> Result<(), NoMemory> {
     if let Some(number) = a.natural() {
         write!(out, ", natural {number}")?;
     }
-    if let Some(number) = a.integer() {
-        write!(out, ", integer {number}")?;
+    match a.integer() {
+        Some(number) => write!(out, ", integer {number}"),
+        None => Ok(()),
     }
+}
+
+/// The name of a bit, behind a blank.
+fn bit_name(bit: Bit) -> &'static str {
+    match bit {
+        Bit::Zero => " Zero",
+        Bit::One => " One",
+        Bit::X => " X",
+        Bit::Z => " Z",
+    }
+}
+
+/// Adds the bits.
+fn add_bits(out: &mut String, a: Bits) -> Result<(), NoMemory> {
     out.push_str(", from the left")?;
+    let width = a.width();
     for place in 0..width {
-        let bit = a.bit(width - 1 - place);
-        write!(out, " {bit:?}")?;
+        out.push_str(bit_name(a.bit(width - 1 - place)))?;
     }
-    if let Some(b) = value_of(second) {
-        let same = if a.is_same(b) { "the same" } else { "another" };
-        write!(out, ", {same}")?;
+    Ok(())
+}
+
+/// Adds whether a second value is the same, where there is one.
+fn add_same(out: &mut String, a: Bits, second: &str) -> Result<(), NoMemory> {
+    match value_of(second) {
+        Some(b) => out.push_str(if a.is_same(b) {
+            ", the same"
+        } else {
+            ", another"
+        }),
+        None => Ok(()),
     }
-    Ok(Some(out))
 }
 
 /// The operators before one operand, as they are spelled.
@@ -196,16 +233,6 @@ const UNARY: &[(&str, Unary)] = &[
     ("^", Unary::ReductionXor),
     ("~^", Unary::ReductionXnor),
 ];
-
-/// The operator before one operand that a word spells.
-fn unary_operator(word: &str) -> Option<Unary> {
-    for (spelling, operator) in UNARY {
-        if *spelling == word {
-            return Some(*operator);
-        }
-    }
-    None
-}
 
 /// The operators between two operands, as they are spelled.
 const BINARY: &[(&str, Binary)] = &[
@@ -239,13 +266,3 @@ const BINARY: &[(&str, Binary)] = &[
     (">>>", Binary::ArithmeticShiftRight),
     ("^~", Binary::BitwiseXnor),
 ];
-
-/// The operator between two operands that a word spells.
-fn binary_operator(word: &str) -> Option<Binary> {
-    for (spelling, operator) in BINARY {
-        if *spelling == word {
-            return Some(*operator);
-        }
-    }
-    None
-}
