@@ -7,11 +7,10 @@
 //! - `words`: how many keywords there are, and of how many the kind is a keyword's, but an identifier's where the word is escaped,
 //!   goes on with `_`, or begins with a capital.
 use std::alloc::Global;
-use std::fmt::Write;
 use sve_bytes::{Keyword, List, NoMemory, keywords_from};
 use sve_lex::lex;
 use sve_origin::{Expanded, Output};
-use sve_row::{Table, add_number, decoded, fields_of, name_of, offset_of, spell};
+use sve_row::{Table, add_kind, add_number, decoded, fields_of, name_of, offset_of, spell};
 use sve_token::{Kind, Token};
 
 /// The rows of tokens.
@@ -72,14 +71,19 @@ fn is_as_it_stands(token: &Token, text: &[u8]) -> bool {
         && token.copied
 }
 
-/// Adds a token of a text, with its kind and where it stands.
-fn add_token(out: &mut String, token: &Token, text: &[u8]) -> Result<(), NoMemory> {
-    let kind = token.kind;
+/// Adds the kind of a token, and where it stands.
+fn add_range(out: &mut String, token: &Token) -> Result<(), NoMemory> {
     let from = token.place.offset as usize;
-    write!(out, "{kind:?} ")?;
+    add_kind(out, token.kind)?;
+    out.push(' ')?;
     add_number(out, from)?;
     out.push('-')?;
-    add_number(out, from.wrapping_add(token.spelling.bytes().len()))?;
+    add_number(out, from.wrapping_add(token.spelling.bytes().len()))
+}
+
+/// Adds a token of a text, with its kind and where it stands.
+fn add_token(out: &mut String, token: &Token, text: &[u8]) -> Result<(), NoMemory> {
+    add_range(out, token)?;
     if is_as_it_stands(token, text) {
         return Ok(());
     }
@@ -164,26 +168,45 @@ fn is_identifier(alloc: Global, text: &[u8]) -> Result<bool, NoMemory> {
     })
 }
 
-/// Whether a keyword is one by itself, and an identifier escaped, with a byte more, or with a capital.
-fn is_told_apart(alloc: Global, word: &[u8]) -> Result<bool, NoMemory> {
+/// Whether a word is one keyword.
+fn is_keyword(alloc: Global, word: &[u8]) -> Result<bool, NoMemory> {
     let tokens = tokens_in(alloc, word)?;
-    let is_keyword = match tokens.items() {
+    Ok(match tokens.items() {
         [token] => matches!(token.kind, Kind::Keyword(_)),
         _ => false,
-    };
+    })
+}
+
+/// Whether a word with `_` behind it is an identifier.
+fn is_longer_one(alloc: Global, word: &[u8]) -> Result<bool, NoMemory> {
     let mut longer = Vec::from_slice(alloc, word)?;
     longer.push(b'_')?;
+    is_identifier(alloc, &longer)
+}
+
+/// Whether a word behind a backslash is an identifier.
+fn is_escaped_one(alloc: Global, word: &[u8]) -> Result<bool, NoMemory> {
     let mut escaped = vec![in alloc; b'\\']?;
     escaped.extend_from_slice(word)?;
+    is_identifier(alloc, &escaped)
+}
+
+/// Whether a word with a capital is an identifier.
+fn is_capital_one(alloc: Global, word: &[u8]) -> Result<bool, NoMemory> {
     let mut capital = Vec::from_slice(alloc, word)?;
     if let Some(byte) = capital.first_mut() {
         *byte = byte.to_ascii_uppercase();
     }
+    is_identifier(alloc, &capital)
+}
+
+/// Whether a keyword is one by itself, and an identifier escaped, with a byte more, or with a capital.
+fn is_told_apart(alloc: Global, word: &[u8]) -> Result<bool, NoMemory> {
     Ok(
-        is_keyword
-            && is_identifier(alloc, &longer)?
-            && is_identifier(alloc, &escaped)?
-            && is_identifier(alloc, &capital)?,
+        is_keyword(alloc, word)?
+            && is_longer_one(alloc, word)?
+            && is_escaped_one(alloc, word)?
+            && is_capital_one(alloc, word)?,
     )
 }
 
@@ -207,5 +230,15 @@ fn words_row(alloc: Global) -> Result<Option<String>, NoMemory> {
         words = words.wrapping_add(here.len());
         apart = apart.wrapping_add(told_apart(alloc, here)?);
     }
-    Ok(Some(format!(in alloc; "{words}, {apart} told apart")?))
+    Ok(Some(counts_text(alloc, words, apart)?))
+}
+
+/// How many keywords there are, and how many are told apart.
+fn counts_text(alloc: Global, words: usize, apart: usize) -> Result<String, NoMemory> {
+    let mut out = String::new(alloc);
+    add_number(&mut out, words)?;
+    out.push_str(", ")?;
+    add_number(&mut out, apart)?;
+    out.push_str(" told apart")?;
+    Ok(out)
 }
