@@ -3,10 +3,9 @@
 //! - `pieces BYTES FILE OFFSET copied | BYTES FILE OFFSET written | ..`: the text that the pieces make, and its segments, each
 //!   with the byte that it begins at.
 use std::alloc::Global;
-use std::fmt::Write;
 use sve_bytes::{List, NetType, NoMemory};
 use sve_origin::{Expanded, Output, Segment};
-use sve_row::{add_number, decoded, fields_of, name_of, offset_of, spell, word};
+use sve_row::{add_number, decoded, fields_of, name_of, net_type_name, offset_of, spell, word};
 
 /// Adds the piece that a field writes, and says whether there is one.
 fn is_added(alloc: Global, output: &mut Output, field: &str) -> Result<bool, NoMemory> {
@@ -43,6 +42,25 @@ fn add_segment(out: &mut String, segment: &Segment) -> Result<(), NoMemory> {
     })
 }
 
+/// Adds a net type, and the byte from which it holds.
+fn add_net_type(out: &mut String, from: u32, net_type: NetType) -> Result<(), NoMemory> {
+    out.push_str(", ")?;
+    out.push_str(net_type_name(net_type))?;
+    out.push_str(" from ")?;
+    add_number(out, from as usize)
+}
+
+/// Adds how many diagnostics there are, and the net types.
+fn add_others(out: &mut String, expanded: &Expanded) -> Result<(), NoMemory> {
+    out.push_str(", ")?;
+    add_number(out, expanded.diags().len())?;
+    out.push_str(" diagnostics")?;
+    for (from, net_type) in expanded.net_types() {
+        add_net_type(out, *from, *net_type)?;
+    }
+    Ok(())
+}
+
 /// The text, its segments, and how many diagnostics and which net types it has.
 fn pieces_text(alloc: Global, expanded: &Expanded) -> Result<String, NoMemory> {
     let mut out = String::new(alloc);
@@ -50,12 +68,7 @@ fn pieces_text(alloc: Global, expanded: &Expanded) -> Result<String, NoMemory> {
     for segment in expanded.segments() {
         add_segment(&mut out, segment)?;
     }
-    out.push_str(", ")?;
-    add_number(&mut out, expanded.diags().len())?;
-    out.push_str(" diagnostics")?;
-    for (at, net_type) in expanded.net_types() {
-        write!(out, ", {net_type:?} from {at}")?;
-    }
+    add_others(&mut out, expanded)?;
     Ok(out)
 }
 

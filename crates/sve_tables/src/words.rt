@@ -5,16 +5,22 @@
 //! - `operators B`: the operators that begin with this byte, those first that are sought first; without a byte how many there
 //!   are in all.
 use std::alloc::Global;
-use std::fmt::Write;
 use sve_bytes::{Keyword, NoMemory, is_keyword, keywords_from};
-use sve_row::{decoded, spell};
-use sve_token::{Operator, keyword, operators_from};
+use sve_row::{add_kind, add_number, decoded, spell};
+use sve_token::{Kind, Operator, keyword, operators_from};
+
+/// What a kind is called.
+fn kind_text(alloc: Global, kind: Kind) -> Result<String, NoMemory> {
+    let mut out = String::new(alloc);
+    add_kind(&mut out, kind)?;
+    Ok(out)
+}
 
 /// The answer to a row `keyword`.
 pub fn keyword_row(alloc: Global, row: &str) -> Result<Option<String>, NoMemory> {
     let bytes = decoded(alloc, row)?;
     match keyword(&bytes) {
-        Some(kind) => Ok(Some(format!(in alloc; "{kind:?}")?)),
+        Some(kind) => Ok(Some(kind_text(alloc, kind)?)),
         None if is_keyword(&bytes) => Ok(Some(String::from_str(alloc, "a word without a kind")?)),
         None => Ok(Some(String::from_str(alloc, "none")?)),
     }
@@ -52,7 +58,17 @@ pub fn keywords_row(alloc: Global) -> Result<Option<String>, NoMemory> {
         words = words.wrapping_add(here.len());
         alone = alone.wrapping_add(told_apart(here));
     }
-    Ok(Some(format!(in alloc; "{words}, {alone} told apart")?))
+    Ok(Some(counts_text(alloc, words, alone)?))
+}
+
+/// How many keywords there are, and how many are told apart.
+fn counts_text(alloc: Global, words: usize, alone: usize) -> Result<String, NoMemory> {
+    let mut out = String::new(alloc);
+    add_number(&mut out, words)?;
+    out.push_str(", ")?;
+    add_number(&mut out, alone)?;
+    out.push_str(" told apart")?;
+    Ok(out)
 }
 
 /// How many operators there are.
@@ -71,20 +87,31 @@ fn add_operator(out: &mut String, first: u8, operator: &Operator) -> Result<(), 
     }
     spell(out, &[first])?;
     spell(out, operator.rest)?;
-    let kind = operator.kind;
-    write!(out, " {kind:?}")
+    out.push(' ')?;
+    add_kind(out, operator.kind)
+}
+
+/// The operators that begin with a byte.
+fn operators_text(alloc: Global, first: u8) -> Result<String, NoMemory> {
+    let mut out = String::new(alloc);
+    for operator in operators_from(first) {
+        add_operator(&mut out, first, operator)?;
+    }
+    Ok(out)
+}
+
+/// How many operators there are, as text.
+fn count_text(alloc: Global) -> Result<String, NoMemory> {
+    let mut out = String::new(alloc);
+    add_number(&mut out, operator_count())?;
+    Ok(out)
 }
 
 /// The answer to a row `operators`.
 pub fn operators_row(alloc: Global, row: &str) -> Result<Option<String>, NoMemory> {
-    let bytes = decoded(alloc, row)?;
-    let Some(first) = bytes.first() else {
-        let count = operator_count();
-        return Ok(Some(format!(in alloc; "{count}")?));
+    let answer = match decoded(alloc, row)?.first() {
+        Some(first) => operators_text(alloc, *first)?,
+        None => count_text(alloc)?,
     };
-    let mut out = String::new(alloc);
-    for operator in operators_from(*first) {
-        add_operator(&mut out, *first, operator)?;
-    }
-    Ok(Some(out))
+    Ok(Some(answer))
 }
