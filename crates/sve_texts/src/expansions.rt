@@ -6,12 +6,11 @@
 //! - `asked TEXT | TEXT OF a.svh`: its net types with the bytes from which they hold, and the names that were asked for.
 use crate::library::{Library, library_of};
 use std::alloc::{AllocError, Global};
-use std::fmt::Write;
-use sve_bytes::NoMemory;
-use sve_diag::print;
+use sve_bytes::{Name, NetType, NoMemory};
+use sve_diag::{Diag, print};
 use sve_origin::Segment;
 use sve_prep::{Expanded, Halt, prep};
-use sve_row::{add_number, name_of, spell};
+use sve_row::{add_number, name_of, net_type_name, spell};
 
 /// The expansion of `m.sv`, with the files that it was made from.
 fn expanded(alloc: Global, row: &str) -> Result<Option<(Library, Expanded)>, NoMemory> {
@@ -26,6 +25,35 @@ fn expanded(alloc: Global, row: &str) -> Result<Option<(Library, Expanded)>, NoM
     }
 }
 
+/// Adds the line of a diagnostic, where it is in this file.
+fn add_line(
+    alloc: Global,
+    out: &mut String,
+    diag: &Diag,
+    name: &Name,
+    text: &[u8],
+) -> Result<(), NoMemory> {
+    let is_in = diag.place.offset as usize <= text.len() && text.len() < 5_000_000;
+    if !is_in || name.bytes() != diag.place.file.bytes() {
+        return Ok(());
+    }
+    out.push_str(", ")?;
+    spell(out, print(alloc, diag, text)?.as_slice())
+}
+
+/// Adds the lines of a diagnostic.
+fn add_diagnostic(
+    alloc: Global,
+    out: &mut String,
+    library: &Library,
+    diag: &Diag,
+) -> Result<(), NoMemory> {
+    for (name, text) in &library.files {
+        add_line(alloc, out, diag, name, text.items())?;
+    }
+    Ok(())
+}
+
 /// Adds the lines of the diagnostics.
 fn add_diagnostics(
     alloc: Global,
@@ -34,14 +62,7 @@ fn add_diagnostics(
     expanded: &Expanded,
 ) -> Result<(), NoMemory> {
     for diag in expanded.diags() {
-        for (name, text) in &library.files {
-            let text = text.items();
-            let is_in = diag.place.offset as usize <= text.len() && text.len() < 5_000_000;
-            if name.bytes() == diag.place.file.bytes() && is_in {
-                out.push_str(", ")?;
-                spell(out, print(alloc, diag, text)?.as_slice())?;
-            }
-        }
+        add_diagnostic(alloc, out, library, diag)?;
     }
     Ok(())
 }
@@ -113,18 +134,32 @@ pub fn origins_row(alloc: Global, row: &str) -> Result<Option<String>, NoMemory>
     }
 }
 
+/// Adds a net type, and the byte from which it holds.
+fn add_net_type(out: &mut String, from: u32, net_type: NetType) -> Result<(), NoMemory> {
+    out.push_str(", ")?;
+    out.push_str(net_type_name(net_type))?;
+    out.push_str(" from ")?;
+    add_number(out, from as usize)
+}
+
+/// Adds the names that were asked for.
+fn add_asked(out: &mut String, library: &Library) -> Result<(), NoMemory> {
+    out.push_str(", asked for")?;
+    for name in &library.asked {
+        out.push(' ')?;
+        spell(out, name.bytes())?;
+    }
+    Ok(())
+}
+
 /// The expanded text, its net types, and the names that were asked for.
 fn asked_text(alloc: Global, library: &Library, expanded: &Expanded) -> Result<String, NoMemory> {
     let mut out = String::new(alloc);
     spell(&mut out, expanded.bytes())?;
-    for (at, net_type) in expanded.net_types() {
-        write!(out, ", {net_type:?} from {at}")?;
+    for (from, net_type) in expanded.net_types() {
+        add_net_type(&mut out, *from, *net_type)?;
     }
-    out.push_str(", asked for")?;
-    for name in &library.asked {
-        out.push(' ')?;
-        spell(&mut out, name.bytes())?;
-    }
+    add_asked(&mut out, library)?;
     Ok(out)
 }
 
