@@ -8,7 +8,6 @@ use sve_diag::{Code, Note};
 use sve_table::{Named, Table};
 
 /// Where a module, an interface or a package of a name stands.
-#[derive(Drop)]
 pub struct Def {
     /// Its name.
     pub name: Name,
@@ -16,6 +15,16 @@ pub struct Def {
     pub file: Name,
     /// The number of its chunk in the file, from 0.
     pub chunk: u32,
+}
+
+impl Drop for Def {
+    fn drop(self) {
+        let Def {
+            name: _,
+            file: _,
+            chunk: _,
+        } = self;
+    }
 }
 
 impl Def {

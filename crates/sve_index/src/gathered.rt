@@ -57,7 +57,30 @@ fn add_root(is_new: bool, source: &FileElement, roots: &mut Vec<Name>) -> Result
     }
 }
 
-/// What is known after one element more. Its tree is gone over once.
+/// Adds what one element more tells to what is known. Its tree is gone over once.
+fn add_element(
+    alloc: Global,
+    source: &FileElement,
+    definitions: &mut Table<Def>,
+    packages: &mut Table<Def>,
+    instantiated: &mut Table<Name>,
+    roots: &mut Vec<Name>,
+    notes: &mut Vec<Note>,
+) -> Result<(), NoMemory>
+    ensures { OnOk result (record { definitions = definitions.new; packages = packages.new; instantiated = instantiated.new; roots = roots.new.items; notes = notes.new.items } ≡ after (record { definitions = definitions.old; packages = packages.old; instantiated = instantiated.old; roots = roots.old.items; notes = notes.old.items }) source.now) }
+{
+    let element = source.element();
+    let definition = definition_token(&element.design);
+    let is_new = add_def_at(definitions, source, definition, notes)?;
+    add_def_at(packages, source, package_token(&element.design), notes)?;
+    add_root(is_new, source, roots)?;
+    let found = mentions(alloc, element)?;
+    add_instances(element.words.as_slice(), found.as_slice(), instantiated)?;
+    add_label_notes(source, found.as_slice(), notes)?;
+    Ok(())
+}
+
+/// What is known after one element more.
 pub(crate) fn after(
     alloc: Global,
     gathered: Gathered,
@@ -74,23 +97,15 @@ pub(crate) fn after(
     } = gathered;
     let mut roots = roots.into_vec();
     let mut notes = notes.into_vec();
-    let element = source.element();
-    let definition = definition_token(&element.design);
-    let is_new = add_def_at(&mut definitions, source, definition, &mut notes)?;
-    add_def_at(
-        &mut packages,
+    add_element(
+        alloc,
         source,
-        package_token(&element.design),
+        &mut definitions,
+        &mut packages,
+        &mut instantiated,
+        &mut roots,
         &mut notes,
     )?;
-    add_root(is_new, source, &mut roots)?;
-    let found = mentions(alloc, element)?;
-    add_instances(
-        element.words.as_slice(),
-        found.as_slice(),
-        &mut instantiated,
-    )?;
-    add_label_notes(source, found.as_slice(), &mut notes)?;
     Ok(Gathered {
         definitions,
         packages,

@@ -6,7 +6,6 @@ use sve_bytes::Name;
 use sve_tree::{Element, Word};
 
 /// The element of a chunk, and where the chunk stands.
-#[derive(Drop)]
 pub struct FileElement {
     /// The name of the file.
     pub file: Name,
@@ -14,6 +13,16 @@ pub struct FileElement {
     pub chunk: u32,
     /// The element.
     pub element: Arc<Element>,
+}
+
+impl Drop for FileElement {
+    fn drop(self) {
+        let FileElement {
+            file: _,
+            chunk: _,
+            element: _,
+        } = self;
+    }
 }
 
 impl FileElement {

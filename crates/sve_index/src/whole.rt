@@ -56,14 +56,14 @@ fn not_among(alloc: Global, names: &[Name], table: &Table<Name>) -> Result<Vec<N
 fn index_from(alloc: Global, gathered: Gathered) -> Result<Index, NoMemory>
     ensures { IfOk result (λ index. index ≡ index_from gathered) }
 {
+    let tops = not_among(alloc, gathered.roots.items(), &gathered.instantiated)?;
     let Gathered {
         definitions,
         packages,
-        instantiated,
-        roots,
+        instantiated: _,
+        roots: _,
         notes,
     } = gathered;
-    let tops = not_among(alloc, roots.items(), &instantiated)?;
     Ok(Index {
         definitions,
         packages,

@@ -1,33 +1,13 @@
--- What is known behind an element, part by part.
-use Rattle.sve_index.proofs.Parts.{one_after}
+-- What is gathered stands in lists again.
+use Rattle.std.proofs.Common.{◌≡◌, ◌∙◌}
+use Rattle.sve_index.specs.declared.gathered.Gathered.{Gathered}
+use Rattle.sve_index.specs.Gathered.{after}
 use Rattle.sve_index.proofs.gathered.after.Goals as goal
 
 pub returns : goal.returns
-returns c = one_after c.args.gathered c.args.source.now c.element-element.result.now c.definition_token-definition.result c.package_token.result c.in_ok-is_new.is_new
-    c.add_def_at.new.defs c.add_def_at-2.new.defs c.add_instances.new.names
-    c.into_vec-roots.result.items c.add_root.new.roots.items c.of.result
-    c.into_vec-notes.result.items c.add_def_at.new.notes.items c.add_def_at-2.new.notes.items c.add_label_notes.new.notes.items c.of-2.result
-    c.as_slice.result.now c.in_ok-found.found.items c.as_slice-2.result.now c.as_slice-3.result.now
-    record {
-      element_is = c.element-element.ensures;
-      definition_is = c.definition_token-definition.ensures;
-      package_is = c.package_token.ensures;
-      words_are = c.as_slice.ensures.value;
-      found_are = c.in_ok-found.ensures;
-      first_are = c.as_slice-2.ensures.value;
-      second_are = c.as_slice-3.ensures.value;
-    }
-    record {
-      definitions_are = c.in_ok-is_new.ensures.defs;
-      packages_are = c.in_ok-add_def_at.ensures.defs;
-      instantiated_are = c.in_ok-add_instances.ensures;
-      is_new_is = c.in_ok-is_new.ensures.is_new;
-      roots_before = c.into_vec-roots.ensures;
-      roots_then = c.in_ok-add_root.ensures;
-      roots_are = c.of.ensures;
-      notes_before = c.into_vec-notes.ensures;
-      notes_first = c.in_ok-is_new.ensures.notes;
-      notes_then = c.in_ok-add_def_at.ensures.notes;
-      notes_last = c.in_ok-add_label_notes.ensures;
-      notes_are = c.of-2.ensures;
-    }
+returns c =
+    let made : Gathered = record { definitions = c.add_element.new.definitions; packages = c.add_element.new.packages; instantiated = c.add_element.new.instantiated; roots = c.add_element.new.roots.items; notes = c.add_element.new.notes.items } in
+    let listed : record made { roots = c.of.result; notes = c.of-2.result } ≡ made = λ k. record made { roots = c.of.ensures k; notes = c.of-2.ensures k } in
+    let same : after (record c.args.gathered { roots = c.into_vec-roots.result.items; notes = c.into_vec-notes.result.items }) c.args.source.now ≡ after c.args.gathered c.args.source.now =
+    λ k. after (record c.args.gathered { roots = c.into_vec-roots.ensures k; notes = c.into_vec-notes.ensures k }) c.args.source.now in
+    listed ∙ c.in_ok-add_element.ensures ∙ same
