@@ -17,11 +17,20 @@ pub(crate) struct Found<Q, V> {
 /// What was found for a key: a value, with a stamp that names it, which is a revision at which the key had this value.
 /// The reads are the keys that were read for it, each with the stamp of the value that it had. Beside it stands the last
 /// revision at which it is known to be so. Copies share what was found.
-#[derive(Drop)]
 pub struct Memo<Q, V> {
     found: Arc<Found<Q, V>>,
     stamp: u64,
     verified: u64,
+}
+
+impl<Q: Drop, V: Drop> Drop for Memo<Q, V> {
+    fn drop(self) {
+        let Memo {
+            found: _,
+            stamp: _,
+            verified: _,
+        } = self;
+    }
 }
 
 impl<Q, V> Model for Memo<Q, V> {

@@ -9,9 +9,14 @@ use sve_bytes::NoMemory;
 
 /// Memos in the order of their keys, at most one for each key. Copies share what they have in common, and a memo is
 /// found or put in as many steps as the number of memos has bits, but for a factor.
-#[derive(Drop)]
 pub struct Memos<Q: Ord, V> {
     tree: Tree<Q, V>,
+}
+
+impl<Q: Ord + Drop, V: Drop> Drop for Memos<Q, V> {
+    fn drop(self) {
+        let Memos { tree: _ } = self;
+    }
 }
 
 impl<Q: Ord, V> Model for Memos<Q, V> {

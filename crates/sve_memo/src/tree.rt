@@ -81,17 +81,12 @@ impl<Q: Ord + Drop, V: Drop> Tree<Q, V> {
                 match memo.key().cmp(branch.memo.key()) {
                     Ordering::Less => {
                         let left = branch.left.put(alloc, memo)?;
-                        balance(alloc, left, branch.memo.share()?, branch.right.share()?)
+                        balance(alloc, &left, &branch.memo, &branch.right)
                     }
-                    Ordering::Equal => fork(
-                        alloc,
-                        branch.left.share()?,
-                        memo,
-                        branch.right.share()?,
-                    ),
+                    Ordering::Equal => above(alloc, &branch.left, &memo, &branch.right),
                     Ordering::Greater => {
                         let right = branch.right.put(alloc, memo)?;
-                        balance(alloc, branch.left.share()?, branch.memo.share()?, right)
+                        balance(alloc, &branch.left, &branch.memo, &right)
                     }
                 }
             }
@@ -118,14 +113,28 @@ fn fork<Q: Drop, V: Drop>(
     Ok(Tree::Fork(Arc::new(alloc, branch)?))
 }
 
+/// A tree that shares this memo above what it shares of these sides.
+fn above<Q: Drop, V: Drop>(
+    alloc: Global,
+    left: &Tree<Q, V>,
+    memo: &Memo<Q, V>,
+    right: &Tree<Q, V>,
+) -> Result<Tree<Q, V>, NoMemory>
+    ensures { IfOk result (λ tree. memos_of tree ≡ memos_of left.now ++ memo.now ∷ memos_of right.now) }
+{
+    let memo = memo.share()?;
+    let left = left.share()?;
+    fork(alloc, left, memo, right.share()?)
+}
+
 /// A fork whose sides differ in height by at most one, where these differ by at most two.
 fn balance<Q: Drop, V: Drop>(
     alloc: Global,
-    left: Tree<Q, V>,
-    memo: Memo<Q, V>,
-    right: Tree<Q, V>,
+    left: &Tree<Q, V>,
+    memo: &Memo<Q, V>,
+    right: &Tree<Q, V>,
 ) -> Result<Tree<Q, V>, NoMemory>
-    ensures { IfOk result (λ tree. memos_of tree ≡ memos_of left ++ memo ∷ memos_of right) }
+    ensures { IfOk result (λ tree. memos_of tree ≡ memos_of left.now ++ memo.now ∷ memos_of right.now) }
 {
     let (left_height, right_height) = (left.height(), right.height());
     if left_height > right_height.saturating_add(1) {
@@ -133,66 +142,56 @@ fn balance<Q: Drop, V: Drop>(
     } else if right_height > left_height.saturating_add(1) {
         rotate_left(alloc, left, memo, right)
     } else {
-        fork(alloc, left, memo, right)
+        above(alloc, left, memo, right)
     }
 }
 
 /// The same memos with the top of the left side above them, or what is between that and the memo.
 fn rotate_right<Q: Drop, V: Drop>(
     alloc: Global,
-    left: Tree<Q, V>,
-    memo: Memo<Q, V>,
-    right: Tree<Q, V>,
+    left: &Tree<Q, V>,
+    memo: &Memo<Q, V>,
+    right: &Tree<Q, V>,
 ) -> Result<Tree<Q, V>, NoMemory>
-    ensures { IfOk result (λ tree. memos_of tree ≡ memos_of left ++ memo ∷ memos_of right) }
+    ensures { IfOk result (λ tree. memos_of tree ≡ memos_of left.now ++ memo.now ∷ memos_of right.now) }
 {
-    let Tree::Fork(top) = &left else {
-        return fork(alloc, left, memo, right);
+    let Tree::Fork(top) = left else {
+        return above(alloc, left, memo, right);
     };
     let top: &Branch<Q, V> = top;
     if let Tree::Fork(middle) = &top.right
         && top.left.height() < top.right.height()
     {
         let middle: &Branch<Q, V> = middle;
-        let low = fork(
-            alloc,
-            top.left.share()?,
-            top.memo.share()?,
-            middle.left.share()?,
-        )?;
-        let high = fork(alloc, middle.right.share()?, memo, right)?;
-        return fork(alloc, low, middle.memo.share()?, high);
+        let low = above(alloc, &top.left, &top.memo, &middle.left)?;
+        let high = above(alloc, &middle.right, memo, right)?;
+        return above(alloc, &low, &middle.memo, &high);
     }
-    let high = fork(alloc, top.right.share()?, memo, right)?;
-    fork(alloc, top.left.share()?, top.memo.share()?, high)
+    let high = above(alloc, &top.right, memo, right)?;
+    above(alloc, &top.left, &top.memo, &high)
 }
 
 /// The same memos with the top of the right side above them, or what is between the memo and that.
 fn rotate_left<Q: Drop, V: Drop>(
     alloc: Global,
-    left: Tree<Q, V>,
-    memo: Memo<Q, V>,
-    right: Tree<Q, V>,
+    left: &Tree<Q, V>,
+    memo: &Memo<Q, V>,
+    right: &Tree<Q, V>,
 ) -> Result<Tree<Q, V>, NoMemory>
-    ensures { IfOk result (λ tree. memos_of tree ≡ memos_of left ++ memo ∷ memos_of right) }
+    ensures { IfOk result (λ tree. memos_of tree ≡ memos_of left.now ++ memo.now ∷ memos_of right.now) }
 {
-    let Tree::Fork(top) = &right else {
-        return fork(alloc, left, memo, right);
+    let Tree::Fork(top) = right else {
+        return above(alloc, left, memo, right);
     };
     let top: &Branch<Q, V> = top;
     if let Tree::Fork(middle) = &top.left
         && top.right.height() < top.left.height()
     {
         let middle: &Branch<Q, V> = middle;
-        let low = fork(alloc, left, memo, middle.left.share()?)?;
-        let high = fork(
-            alloc,
-            middle.right.share()?,
-            top.memo.share()?,
-            top.right.share()?,
-        )?;
-        return fork(alloc, low, middle.memo.share()?, high);
+        let low = above(alloc, left, memo, &middle.left)?;
+        let high = above(alloc, &middle.right, &top.memo, &top.right)?;
+        return above(alloc, &low, &middle.memo, &high);
     }
-    let low = fork(alloc, left, memo, top.left.share()?)?;
-    fork(alloc, low, top.memo.share()?, top.right.share()?)
+    let low = above(alloc, left, memo, &top.left)?;
+    above(alloc, &low, &top.memo, &top.right)
 }
