@@ -11,7 +11,6 @@ pub const MAX_FILE_LEN: usize = 1_048_576;
 pub const MAX_FILES: usize = 2_048;
 
 /// One change of a commit to one file. Offsets and lengths count bytes.
-#[derive(Drop)]
 pub enum Edit {
     /// The file has this text from now on, whether or not it was there (own).
     Put {
@@ -32,6 +31,22 @@ pub enum Edit {
         cut: u32,
         text: Text,
     },
+}
+
+impl Drop for Edit {
+    fn drop(self) {
+        match self {
+            Edit::Put { name: _, text: _ } => {}
+            Edit::Drop { name: _ } => {}
+            Edit::Splice {
+                name: _,
+                base: _,
+                at: _,
+                cut: _,
+                text: _,
+            } => {}
+        }
+    }
 }
 
 impl Edit {

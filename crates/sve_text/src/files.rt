@@ -14,10 +14,18 @@ use sve_rope::Text;
 
 /// The files of one revision: for each name a text of at most 1,048,576 bytes or none, and the
 /// revision whose commit last touched it. Revisions share what they have in common.
-#[derive(Drop)]
 pub struct Files {
     pub(crate) tree: Tree,
     pub(crate) names_stamp: u64,
+}
+
+impl Drop for Files {
+    fn drop(self) {
+        let Files {
+            tree: _,
+            names_stamp: _,
+        } = self;
+    }
 }
 
 impl Model for Files {

@@ -145,17 +145,12 @@ impl Tree {
                 match row.name.cmp(&branch.row.name) {
                     Ordering::Less => {
                         let left = branch.left.put(alloc, row)?;
-                        balance(alloc, left, branch.row.share()?, branch.right.share()?)
+                        balance(alloc, &left, &branch.row, &branch.right)
                     }
-                    Ordering::Equal => fork(
-                        alloc,
-                        branch.left.share()?,
-                        row,
-                        branch.right.share()?,
-                    ),
+                    Ordering::Equal => above(alloc, &branch.left, &row, &branch.right),
                     Ordering::Greater => {
                         let right = branch.right.put(alloc, row)?;
-                        balance(alloc, branch.left.share()?, branch.row.share()?, right)
+                        balance(alloc, &branch.left, &branch.row, &right)
                     }
                 }
             }
@@ -191,11 +186,23 @@ fn sum(left: usize, here: usize, right: usize) -> Result<usize, NoMemory>
     left.checked_add(both).ok_or(AllocError)
 }
 
+/// A tree that shares this row above what it shares of these sides.
+fn above(alloc: Global, left: &Tree, row: &StoredRow, right: &Tree) -> Result<Tree, NoMemory>
+    requires left { IsCounted left.now }
+    requires right { IsCounted right.now }
+    ensures rows { IfOk result (λ t. rows_in t ≡ rows_in left.now ++ row.now ∷ rows_in right.now) }
+    ensures counted { IfOk result IsCounted }
+{
+    let row = row.share()?;
+    let left = left.share()?;
+    fork(alloc, left, row, right.share()?)
+}
+
 /// A fork whose sides differ in height by at most one, where these differ by at most two.
-fn balance(alloc: Global, left: Tree, row: StoredRow, right: Tree) -> Result<Tree, NoMemory>
-    requires left { IsCounted left }
-    requires right { IsCounted right }
-    ensures rows { IfOk result (λ t. rows_in t ≡ rows_in left ++ row ∷ rows_in right) }
+fn balance(alloc: Global, left: &Tree, row: &StoredRow, right: &Tree) -> Result<Tree, NoMemory>
+    requires left { IsCounted left.now }
+    requires right { IsCounted right.now }
+    ensures rows { IfOk result (λ t. rows_in t ≡ rows_in left.now ++ row.now ∷ rows_in right.now) }
     ensures counted { IfOk result IsCounted }
 {
     let (left_height, right_height) = (left.height(), right.height());
@@ -204,62 +211,52 @@ fn balance(alloc: Global, left: Tree, row: StoredRow, right: Tree) -> Result<Tre
     } else if right_height > left_height.saturating_add(1) {
         rotate_left(alloc, left, row, right)
     } else {
-        fork(alloc, left, row, right)
+        above(alloc, left, row, right)
     }
 }
 
 /// The same rows with the top of the left side above them, or what is between that and the row.
-fn rotate_right(alloc: Global, left: Tree, row: StoredRow, right: Tree) -> Result<Tree, NoMemory>
-    requires left { IsCounted left }
-    requires right { IsCounted right }
-    ensures rows { IfOk result (λ t. rows_in t ≡ rows_in left ++ row ∷ rows_in right) }
+fn rotate_right(alloc: Global, left: &Tree, row: &StoredRow, right: &Tree) -> Result<Tree, NoMemory>
+    requires left { IsCounted left.now }
+    requires right { IsCounted right.now }
+    ensures rows { IfOk result (λ t. rows_in t ≡ rows_in left.now ++ row.now ∷ rows_in right.now) }
     ensures counted { IfOk result IsCounted }
 {
-    let Tree::Fork(top) = &left else {
-        return fork(alloc, left, row, right);
+    let Tree::Fork(top) = left else {
+        return above(alloc, left, row, right);
     };
     let top: &Branch = top;
     if let Tree::Fork(middle) = &top.right
         && top.left.height() < top.right.height()
     {
         let middle: &Branch = middle;
-        let low = fork(
-            alloc,
-            top.left.share()?,
-            top.row.share()?,
-            middle.left.share()?,
-        )?;
-        let high = fork(alloc, middle.right.share()?, row, right)?;
-        return fork(alloc, low, middle.row.share()?, high);
+        let low = above(alloc, &top.left, &top.row, &middle.left)?;
+        let high = above(alloc, &middle.right, row, right)?;
+        return above(alloc, &low, &middle.row, &high);
     }
-    let high = fork(alloc, top.right.share()?, row, right)?;
-    fork(alloc, top.left.share()?, top.row.share()?, high)
+    let high = above(alloc, &top.right, row, right)?;
+    above(alloc, &top.left, &top.row, &high)
 }
 
 /// The same rows with the top of the right side above them, or what is between the row and that.
-fn rotate_left(alloc: Global, left: Tree, row: StoredRow, right: Tree) -> Result<Tree, NoMemory>
-    requires left { IsCounted left }
-    requires right { IsCounted right }
-    ensures rows { IfOk result (λ t. rows_in t ≡ rows_in left ++ row ∷ rows_in right) }
+fn rotate_left(alloc: Global, left: &Tree, row: &StoredRow, right: &Tree) -> Result<Tree, NoMemory>
+    requires left { IsCounted left.now }
+    requires right { IsCounted right.now }
+    ensures rows { IfOk result (λ t. rows_in t ≡ rows_in left.now ++ row.now ∷ rows_in right.now) }
     ensures counted { IfOk result IsCounted }
 {
-    let Tree::Fork(top) = &right else {
-        return fork(alloc, left, row, right);
+    let Tree::Fork(top) = right else {
+        return above(alloc, left, row, right);
     };
     let top: &Branch = top;
     if let Tree::Fork(middle) = &top.left
         && top.right.height() < top.left.height()
     {
         let middle: &Branch = middle;
-        let low = fork(alloc, left, row, middle.left.share()?)?;
-        let high = fork(
-            alloc,
-            middle.right.share()?,
-            top.row.share()?,
-            top.right.share()?,
-        )?;
-        return fork(alloc, low, middle.row.share()?, high);
+        let low = above(alloc, left, row, &middle.left)?;
+        let high = above(alloc, &middle.right, &top.row, &top.right)?;
+        return above(alloc, &low, &middle.row, &high);
     }
-    let low = fork(alloc, left, row, top.left.share()?)?;
-    fork(alloc, low, top.row.share()?, top.right.share()?)
+    let low = above(alloc, left, row, &top.left)?;
+    above(alloc, &low, &top.row, &top.right)
 }
