@@ -6,7 +6,6 @@ use sve_bytes::{List, NoMemory};
 use sve_text::Edit;
 
 /// A commit that was accepted.
-#[derive(Drop)]
 pub struct Entry {
     /// Whose commit it is. Clients count from 1.
     pub client: u32,
@@ -14,6 +13,16 @@ pub struct Entry {
     pub command: u32,
     /// What it changes, in order.
     pub edits: List<Edit>,
+}
+
+impl Drop for Entry {
+    fn drop(self) {
+        let Entry {
+            client: _,
+            command: _,
+            edits: _,
+        } = self;
+    }
 }
 
 impl Entry {

@@ -15,10 +15,18 @@ use sve_text::{Files, apply};
 /// commands rise.
 ///
 /// The revisions share what they have in common, so that one takes memory for what its commit touched.
-#[derive(Drop)]
 pub struct History {
     opening: Files,
     revisions: Vec<Revision>,
+}
+
+impl Drop for History {
+    fn drop(self) {
+        let History {
+            opening: _,
+            revisions: _,
+        } = self;
+    }
 }
 
 impl Model for History {
