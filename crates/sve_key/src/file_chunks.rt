@@ -5,9 +5,14 @@ use sve_bytes::List;
 use sve_unit::Chunk;
 
 /// The chunks of a file, in order, fewer than 2^32 (IEEE 1800-2017, A.1.2).
-#[derive(Drop)]
 pub struct FileChunks {
     chunks: List<Chunk>,
+}
+
+impl Drop for FileChunks {
+    fn drop(self) {
+        let FileChunks { chunks: _ } = self;
+    }
 }
 
 impl Model for FileChunks {

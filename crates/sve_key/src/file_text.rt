@@ -9,10 +9,15 @@ use sve_bytes::{List, NoMemory};
 
 /// The text of a file of at most 1,048,576 bytes, or that it is not there, and the revision whose commit last touched it. Copies
 /// share the text.
-#[derive(Drop)]
 pub struct FileText {
     text: Option<Arc<List<u8>>>,
     stamp: u64,
+}
+
+impl Drop for FileText {
+    fn drop(self) {
+        let FileText { text: _, stamp: _ } = self;
+    }
 }
 
 impl Model for FileText {

@@ -7,11 +7,20 @@ use sve_token::Token;
 
 /// The tokens of a file and of what it includes, fewer than 2^32; what its expansion has to say, in the order in which it was
 /// found; and the net types that are in force from each byte of the expanded text on (IEEE 1800-2017, clauses 5 and 22).
-#[derive(Drop)]
 pub struct FileTokens {
     tokens: List<Token>,
     diags: List<Diag>,
     net_types: List<(u32, NetType)>,
+}
+
+impl Drop for FileTokens {
+    fn drop(self) {
+        let FileTokens {
+            tokens: _,
+            diags: _,
+            net_types: _,
+        } = self;
+    }
 }
 
 impl Model for FileTokens {

@@ -5,7 +5,6 @@ use std::cmp::Ordering;
 use sve_bytes::{Name, NoMemory};
 
 /// What can be asked for of the files of a revision (own).
-#[derive(Drop)]
 pub enum Key {
     /// The text of a file, or that no file of this name is there.
     Text(Name),
@@ -19,6 +18,19 @@ pub enum Key {
     Element(Name, u32),
     /// The index of the design: its definitions, its packages and its tops (3.13 and 23.3.1).
     Index,
+}
+
+impl Drop for Key {
+    fn drop(self) {
+        match self {
+            Key::Text(_) => {}
+            Key::Names => {}
+            Key::Tokens(_) => {}
+            Key::Chunks(_) => {}
+            Key::Element(_, _) => {}
+            Key::Index => {}
+        }
+    }
 }
 
 impl Key {

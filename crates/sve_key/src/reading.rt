@@ -11,9 +11,14 @@ use sve_tree::Element;
 
 /// What a chunk is read as: its element, or where the grammar stops. Two are one where the words of their chunks are, or where
 /// they stop alike. Copies share the element.
-#[derive(Drop)]
 pub struct Reading {
     pub(crate) read: Read,
+}
+
+impl Drop for Reading {
+    fn drop(self) {
+        let Reading { read: _ } = self;
+    }
 }
 
 #[derive(Drop)]

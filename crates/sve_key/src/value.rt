@@ -14,7 +14,6 @@ use sve_token::Token;
 use sve_unit::Chunk;
 
 /// What a key stands for at some files, by the kind of the key.
-#[derive(Drop)]
 pub enum Value {
     /// The text of a file.
     Text(FileText),
@@ -28,6 +27,19 @@ pub enum Value {
     Element(Reading),
     /// The index of the design.
     Index(Index),
+}
+
+impl Drop for Value {
+    fn drop(self) {
+        match self {
+            Value::Text(_) => {}
+            Value::Names(_) => {}
+            Value::Tokens(_) => {}
+            Value::Chunks(_) => {}
+            Value::Element(_) => {}
+            Value::Index(_) => {}
+        }
+    }
 }
 
 impl Value {
