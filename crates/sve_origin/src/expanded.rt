@@ -10,11 +10,20 @@ use sve_diag::Diag;
 
 /// An expanded text: its bytes with where they come from, what the expansion has to say, and the net types that are
 /// in force.
-#[derive(Drop)]
 pub struct Expanded {
     output: Output,
     diags: List<Diag>,
     net_types: List<(u32, NetType)>,
+}
+
+impl Drop for Expanded {
+    fn drop(self) {
+        let Expanded {
+            output: _,
+            diags: _,
+            net_types: _,
+        } = self;
+    }
 }
 
 impl Model for Expanded {

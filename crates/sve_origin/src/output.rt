@@ -12,10 +12,18 @@ use sve_diag::Place;
 
 /// A text that is being written, each byte with where it comes from. Bytes that go on from the ones before them share
 /// their segment.
-#[derive(Drop)]
 pub struct Output {
     bytes: Vec<u8>,
     segments: Vec<Segment>,
+}
+
+impl Drop for Output {
+    fn drop(self) {
+        let Output {
+            bytes: _,
+            segments: _,
+        } = self;
+    }
 }
 
 impl Model for Output {
