@@ -27,9 +27,14 @@ pub enum BadName {
 }
 
 /// A name of 1 to 1,024 bytes: an identifier, a file name or a label. Copies share its bytes.
-#[derive(Drop)]
 pub struct Name {
     bytes: ArcSlice<u8>,
+}
+
+impl Drop for Name {
+    fn drop(self) {
+        let Name { bytes: _ } = self;
+    }
 }
 
 impl Model for Name {
