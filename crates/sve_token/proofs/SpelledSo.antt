@@ -1,9 +1,10 @@
 -- The keyword that a text is among some keywords.
-use Rattle.std.proofs.Common.{◌≡◌, ℕ, suc, ◌+◌, ◌<◌, List, [], ◌∷◌, length, drop, get_or, map, zero, Option, Some, None, IsSome, is_some, IsTrue, nat_eq, eqb-true, Bool, true, false, ◌⊎◌, inl, inr, ◌↔◌, refl, sym, ap, ◌∙◌, arith, add-one}
+use Rattle.std.proofs.Common.{◌≡◌, ℕ, suc, ◌+◌, ◌<◌, ◌≤◌, List, [], ◌∷◌, length, drop, get_or, map, zero, Option, Some, None, IsSome, is_some, IsTrue, nat_eq, eqb-true, Bool, true, false, ◌⊎◌, inl, inr, ◌↔◌, refl, sym, ap, ◌∙◌, arith, add-one}
 use Rattle.std.specs.Str.{bytes_eq}
 use Rattle.std.specs.Option.{option_map}
 use Rattle.std.specs.Cmp.Lexicographic.{same_text}
 use Rattle.std.proofs.Math.Seq.{drop-cons}
+use Rattle.std.proofs.lemmas.List.{drop_all}
 use Rattle.sve_bytes.specs.declared.keyword.Keyword.{Keyword as Word}
 use Rattle.sve_bytes.specs.Keywords.{keywords_from, is_among, is_keyword_text}
 use Rattle.sve_token.specs.declared.keywords.Keyword.{Keyword}
@@ -59,6 +60,18 @@ spelled_on ks ws i k w text e l same h =
     rw add-one (
     sym (ap (λ js. spelled_so js text) (drop-cons ks i k n)
     ∙ spelled_no (get_or ks i k) (drop (suc i) ks) text (ap (λ t. bytes_eq t text) (same_at ks ws i k w e l) ∙ h)) ∙ same)
+
+-- once all are passed, it is none of them
+pub spelled_past : (ks : List Keyword) (ws : List Word) (i : ℕ) (text : List ℕ) → SameWords ks ws → length ws ≤ i → spelled_so (drop i ks) text ≡ spelled_so ks text → None ≡ spelled_so ks text
+spelled_past ks ws i text e l same =
+    let m : length ks ≡ length ws = same_length ks ws e in
+    let n : length ks ≤ i = omega (arith, m, l) in
+    sym (ap (λ js. spelled_so js text) (drop_all i ks n)) ∙ same
+
+pub within_keywords : (ks : List Keyword) (ws : List Word) (i : ℕ) → SameWords ks ws → i < length ws → i < length ks
+within_keywords ks ws i e l =
+    let m : length ks ≡ length ws = same_length ks ws e in
+    omega (arith, m, l)
 
 -- what is found is spelled so
 spelled_is : (ks : List Keyword) (text : List ℕ) (k : Keyword) → spelled_so ks text ≡ Some k → text ≡ keyword_text k
