@@ -5,7 +5,6 @@
 mod reading;
 mod schedules;
 mod showing;
-mod texts;
 
 use schedules::Schedules;
 use std::io;

@@ -1,11 +1,11 @@
 //! Rows of schedules.
-use crate::reading::{clients_of, event_of, files_of};
+use crate::reading::{clients_of, event_of};
 use crate::showing::{show_entries, show_files, show_what_came};
-use crate::texts::Texts;
 use std::alloc::Global;
 use sve_allowed::allows;
 use sve_bytes::NoMemory;
 use sve_row::{Table, field, number_of, parts_of, word};
+use sve_sample::{Texts, files_of};
 use sve_world::{World, step};
 
 /// The rows of this table.

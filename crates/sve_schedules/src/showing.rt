@@ -1,15 +1,14 @@
 //! How answers spell what came of events.
 ghost use Rattle.sve_world.specs.Machine.{IsClient};
 
-use crate::texts::Texts;
 use std::alloc::Global;
 use std::fmt::Write;
 use sve_bytes::NoMemory;
-use sve_core::{Commit, Outcome};
 use sve_history::History;
 use sve_row::spell;
+use sve_sample::{Texts, show_commit, show_outcome};
 use sve_seat::Told;
-use sve_text::{Files, Why};
+use sve_text::Files;
 use sve_world::World;
 
 /// Adds what came of an event of this kind for its client, which is there.
@@ -52,43 +51,6 @@ fn show_told<Q>(out: &mut String, told: &Told<Q>) -> Result<(), NoMemory> {
     match told {
         Told::Committed { commit, .. } => show_commit(out, *commit),
         Told::Asked { outcome, .. } => show_outcome(out, outcome),
-    }
-}
-
-fn show_commit(out: &mut String, commit: Commit) -> Result<(), NoMemory> {
-    match commit {
-        Commit::Accepted { r } => write!(out, "accepted {r}"),
-        Commit::Refused { r, edit, why } => {
-            write!(out, "refused {r} {edit} ")?;
-            show_why(out, why)
-        }
-        Commit::Full => out.push_str("full"),
-    }
-}
-
-fn show_why(out: &mut String, why: Why) -> Result<(), NoMemory> {
-    match why {
-        Why::NoFile => out.push_str("no file"),
-        Why::Stale { stamp } => write!(out, "stale {stamp}"),
-        Why::Range { length } => write!(out, "range {length}"),
-        Why::FileTooLarge { bytes } => write!(out, "file too large {bytes}"),
-        Why::TooManyFiles => out.push_str("too many files"),
-    }
-}
-
-fn show_outcome(out: &mut String, outcome: &Outcome) -> Result<(), NoMemory> {
-    match outcome {
-        Outcome::Answered(lines) => {
-            out.push_str("answered")?;
-            for line in lines.items() {
-                out.push_str(" '")?;
-                spell(out, line.items())?;
-                out.push('\'')?;
-            }
-            Ok(())
-        }
-        Outcome::Spent { budget } => write!(out, "spent {budget}"),
-        Outcome::Cancelled { base, newer } => write!(out, "cancelled {base} {newer}"),
     }
 }
 

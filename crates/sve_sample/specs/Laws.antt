@@ -13,7 +13,7 @@ use Rattle.sve_history.specs.Histories.{HistoryValue, IsOpening, files_at}
 use Rattle.sve_history.proofs.Stamps.{stamps_tell_revisions}
 use Rattle.sve_store.specs.Made.{Needs, values_of, IsOneOf}
 use Rattle.sve_store.specs.Values.{Gives, is_given, is_made, is_needed, IsValue, TellsValues, TellsLowerValues}
-use Rattle.sve_schedules.specs.Texts.{text_at, made}
+use Rattle.sve_sample.specs.Texts.{text_at, made}
 
 abbrev Text : Type 0
 Text = Option (List ℕ)

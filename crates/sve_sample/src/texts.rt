@@ -1,8 +1,8 @@
 //! Kinds whose keys are the names of files: what is asked is a file's text.
 ghost use Rattle.std.specs.Prelude.{◌≡◌, ℕ, List, [], true, refl, IfOk};
 ghost use Rattle.sve_bytes.specs.FileName.{is_file_name_of};
-ghost use Rattle.sve_schedules.specs.Texts.{text_at, made, lines_of, told_of, asks_for};
-ghost use Rattle.sve_schedules.specs.Laws.{same_name, some_of_files, stamps_of_texts, no_lower, no_reading, at_other_fuel};
+ghost use Rattle.sve_sample.specs.Texts.{text_at, made, lines_of, told_of, asks_for};
+ghost use Rattle.sve_sample.specs.Laws.{same_name, some_of_files, stamps_of_texts, no_lower, no_reading, at_other_fuel};
 
 use std::alloc::{AllocError, Global};
 use std::marker::Model;
