@@ -13,16 +13,12 @@ use Rattle.sve_grammar.specs.Statements.{assignment_operator, increment_operator
 use Rattle.sve_grammar.proofs.Idle.{first_way, last_way, stops_here}
 use Rattle.sve_grammar.proofs.StartsOfTypes.{declared_name_starts, declared_name_full}
 
-is_identifier : (k : Kind) → same_kind k Identifier ≡ true → k ≡ Identifier
-unfolding same_kind
-is_identifier Identifier e = refl
-is_identifier k e = absurd (false≢true e)
-
 -- no operator and no call begins with an identifier
 pub no_tail : (k : Option Kind) → has_kind k Identifier ≡ true → (starts assignment_operator k ≡ false) × (starts statement_tail k ≡ false)
 unfolding assignment_operator statement_tail increment_operator argument_list same_kind
 no_tail None e = absurd (false≢true e)
-no_tail (Some k) e = rw (is_identifier k e) (refl, refl)
+no_tail (Some Identifier) e = (refl, refl)
+no_tail (Some k) e = absurd (false≢true e)
 
 module _ (ts : List Token) (n i : ℕ) where
   -- what is read here by a rule, and whether it begins
