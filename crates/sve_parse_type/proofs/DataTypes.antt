@@ -91,15 +91,11 @@ module _ (ts : List Token) (n i : ℕ) where
   unfolding enum_base
   base_none a v h = last_way ts n enum_base nothing i (rw (no_atom a, no_vector v, named_type_starts (kind_at ts i) ∘ h) refl) enum_base_full
 
-is_struct : (k : Kind) → same_kind k (Keyword KwStruct) ≡ true → k ≡ Keyword KwStruct
-unfolding same_kind
-is_struct (Keyword KwStruct) e = refl
-is_struct k e = absurd (false≢true e)
-
 no_other : (k : Option Kind) → has_kind k (Keyword KwStruct) ≡ true → (starts atom_type k ≡ false) × (starts vector_type k ≡ false) × (has_kind k (Keyword KwString) ≡ false) × (starts enumeration k ≡ false)
 unfolding atom_type integer_atom_type vector_type integer_vector_type enumeration same_kind
 no_other None e = absurd (false≢true e)
-no_other (Some k) e = rw (is_struct k e) (refl, refl, refl, refl)
+no_other (Some (Keyword KwStruct)) e = (refl, refl, refl, refl)
+no_other (Some k) e = absurd (false≢true e)
 
 -- `struct` begins no type but a structure
 pub structure_way : (ts : List Token) (n i : ℕ) → has_kind (kind_at ts i) (Keyword KwStruct) ≡ true
