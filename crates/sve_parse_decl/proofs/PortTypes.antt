@@ -10,7 +10,7 @@ use Rattle.sve_grammar.specs.declared.stop.Stop.{Stop}
 use Rattle.sve_grammar.specs.declared.stop.Stop.TheVariants.{At, NoMemory}
 use Rattle.sve_grammar.specs.Token.{kind_at, has_kind, same_kind}
 use Rattle.sve_grammar.specs.Rule.{Rule, tok, sym, ◌∙◌, ◌∣◌, opt, starts, opens}
-use Rattle.sve_grammar.specs.Reading.{Tree, leaf, none, pair, left, right, turn, ended, Answer, ◌>>=◌, halt, both, with_left, with_right, token, reads, symbol}
+use Rattle.sve_grammar.specs.Reading.{Tree, leaf, pair, left, right, Answer, ◌>>=◌, halt, both, with_left, with_right, token, reads, symbol}
 use Rattle.sve_grammar.specs.Gives.{Fails}
 use Rattle.sve_grammar.specs.Expressions.{signing, dimension, dimensions}
 use Rattle.sve_grammar.specs.Types.{declared_name, declared_type, declared_type_end, port_type, port_type_end}
@@ -151,25 +151,17 @@ port_stops ts n i (At index deep) h f = port_reads ts n i h ∘ ap (through wide
 
 -- ---- an interface with a modport
 
-is_identifier : (k : Kind) → same_kind k Identifier ≡ true → k ≡ Identifier
-unfolding same_kind
-is_identifier Identifier e = refl
-is_identifier k e = absurd (false≢true e)
-
 only_last : (k : Option Kind) → has_kind k Identifier ≡ true → (opens DataType k ≡ false) × (starts signing k ≡ false) × (starts dimension k ≡ false)
 unfolding opens signing dimension same_kind
 only_last None e = absurd (false≢true e)
-only_last (Some k) e = rw (is_identifier k e) (refl, refl, refl)
-
-is_dot : (k : Kind) → same_kind k Dot ≡ true → k ≡ Dot
-unfolding same_kind
-is_dot Dot e = refl
-is_dot k e = absurd (false≢true e)
+only_last (Some Identifier) e = (refl, refl, refl)
+only_last (Some k) e = absurd (false≢true e)
 
 no_colons : (k : Option Kind) → has_kind k Dot ≡ true → has_kind k ColonColon ≡ false
 unfolding same_kind
 no_colons None e = absurd (false≢true e)
-no_colons (Some k) e = rw (is_dot k e) refl
+no_colons (Some Dot) e = refl
+no_colons (Some k) e = absurd (false≢true e)
 
 and_true : (a b : Bool) → (a && b) ≡ true → (a ≡ true) × (b ≡ true)
 and_true true b h = (refl, h)
