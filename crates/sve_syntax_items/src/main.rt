@@ -20,8 +20,9 @@ mod reading;
 use answering::answered;
 use std::alloc::Global;
 use std::io;
-use std::io::{BufRead, BufReader, BufWriter, Write};
+use std::io::Write;
 use std::thread::{Builder, Threads};
+use sve_row::{Lines, write_line, write_lines};
 
 /// How much stack the thread of a deep text has, in bytes: 8 MiB, as a thread has by itself where nothing else is set.
 const STACK: usize = 8 << 20;
@@ -33,17 +34,22 @@ fn answered_apart(rt: &impl Threads, alloc: Global, line: String) -> io::Result<
     Ok(child.join(rt)?)
 }
 
-fn main(rt: HostRuntime) -> io::Result<()> {
-    let alloc = rt.alloc();
-    let mut out = BufWriter::new(alloc, io::writer(&rt))?;
-    for line in BufReader::new(alloc, rt.reader())?.lines(alloc) {
-        let line = line?;
-        let text = if line.starts_with("deep ") {
-            answered_apart(&rt, alloc, line)?
-        } else {
-            answered(alloc, line.as_str())?
-        };
-        writeln!(out, "{text}")?;
+/// The lines of the table, each with its answer.
+#[derive(Drop)]
+struct Texts<'a, R> {
+    rt: &'a R,
+}
+
+impl<R: Threads> Lines for Texts<'_, R> {
+    fn write<W: Write>(&self, alloc: Global, line: &str, out: &mut W) -> io::Result<()> {
+        if line.starts_with("deep ") {
+            let text = answered_apart(self.rt, alloc, String::from_str(alloc, line)?)?;
+            return write_line(out, text.as_str());
+        }
+        write_line(out, answered(alloc, line)?.as_str())
     }
-    out.flush()
+}
+
+fn main(rt: HostRuntime) -> io::Result<()> {
+    write_lines(&rt, &Texts { rt: &rt })
 }
