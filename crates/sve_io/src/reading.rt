@@ -5,7 +5,7 @@ ghost use Rattle.sve_io.specs.Moves.{Advances, Loses};
 ghost use Rattle.sve_io.specs.Reading.{bytes_moved, IfBytes, UnlessBytes, OnEnd, OnFailed, UnlessFailed};
 
 /// What one read of a [`Source`] gave.
-#[derive(Clone, Copy, PartialEq, Eq)]
+#[derive(Clone, Copy, Debug, PartialEq, Eq)]
 pub enum Got {
     /// So many bytes, counted from 1, were put at the front of the buffer. It is 0 only where the
     /// buffer had no room.

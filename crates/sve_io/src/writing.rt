@@ -4,7 +4,7 @@ ghost use Rattle.sve_io.specs.Faults.{HasRisen};
 ghost use Rattle.sve_io.specs.Moves.{Advances, Gains};
 
 /// A sink failed, and counted the fault. It took no byte of the piece.
-#[derive(Clone, Copy, PartialEq, Eq)]
+#[derive(Clone, Copy, Debug, PartialEq, Eq)]
 pub struct Failed;
 
 /// Where bytes go. It counts its own faults, so that who writes can show that an answer "the sink
