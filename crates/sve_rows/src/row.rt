@@ -1,7 +1,9 @@
-//! The lines of the table: what they run.
+//! The lines of the table: what they run, and who is held.
+use crate::gate::Hold;
 use itoa::Buffer;
 use percent_encoding::percent_decode;
 use std::alloc::{AllocError, Global};
+use sve_serve::Point;
 
 /// The most that a piece of a session is repeated.
 const MOST: u32 = 20_000_000;
@@ -19,6 +21,8 @@ pub struct Row {
     pub times: Option<u32>,
     /// Whether the report depends on the schedule of the clients.
     pub is_free: bool,
+    /// Who is held where.
+    pub holds: Vec<Hold>,
     /// What the source gives.
     pub bytes: Vec<u8>,
 }
@@ -32,6 +36,7 @@ pub fn row_of(alloc: Global, line: &str) -> Result<Row, AllocError> {
         failing_writes: Vec::new(alloc),
         times: None,
         is_free: false,
+        holds: Vec::new(alloc),
         bytes: Vec::new(alloc),
     };
     for word in front.split_whitespace() {
@@ -59,9 +64,38 @@ fn add_word(alloc: Global, row: &mut Row, word: &str) -> Result<(), AllocError> 
         Some(("write", number)) => row.failing_writes.push(number.parse::<u64>().unwrap_or(0))?,
         Some(("repeat", number)) => row.times = number.parse::<u32>().ok(),
         Some(("schedule", "any")) => row.is_free = true,
+        Some(("hold", places)) => add_hold(&mut row.holds, places)?,
         _ => row.words.push(String::from_str(alloc, word)?)?,
     }
     Ok(())
+}
+
+/// Adds the hold `PLACE>PLACE`; one of another form is none.
+fn add_hold(holds: &mut Vec<Hold>, places: &str) -> Result<(), AllocError> {
+    if let Some(hold) = hold_of(places) {
+        holds.push(hold)?;
+    }
+    Ok(())
+}
+
+fn hold_of(places: &str) -> Option<Hold> {
+    let (held, awaited) = places.split_once('>')?;
+    Some(Hold::new(place_of(held)?, place_of(awaited)?))
+}
+
+/// `b` or `a`, a client, a point and a command.
+fn place_of(word: &str) -> Option<Point> {
+    if let Some(rest) = word.strip_prefix('b') {
+        let (client, command) = numbers_of(rest)?;
+        return Some(Point::Before { client, command });
+    }
+    let (client, command) = numbers_of(word.strip_prefix('a')?)?;
+    Some(Point::After { client, command })
+}
+
+fn numbers_of(text: &str) -> Option<(u32, u32)> {
+    let (client, command) = text.split_once('.')?;
+    Some((client.parse::<u32>().ok()?, command.parse::<u32>().ok()?))
 }
 
 /// Adds the session of the pieces `FRONT | UNIT | BETWEEN | BACK`.

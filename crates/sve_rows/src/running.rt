@@ -1,4 +1,5 @@
 //! The runs of the table.
+use crate::gate::Holding;
 use crate::row::Row;
 use std::alloc::Global;
 use std::io;
@@ -6,7 +7,7 @@ use std::io::Write;
 use std::sync::Wait;
 use std::thread::Threads;
 use sve_io::{MemSink, MemSource};
-use sve_serve::{NoGate, exit_code, serve};
+use sve_serve::{exit_code, serve};
 
 /// The most bytes that a sink takes.
 const ROOM: usize = 4_194_304;
@@ -21,10 +22,14 @@ pub fn write_run<R: Threads + Wait + Sync, W: Write>(
     let is_long = row.times.is_some();
     let is_free = row.is_free;
     let (reads, writes) = if is_long { (65_536, 65_536) } else { (8, 16) };
+    let gate = Holding::new(row.holds);
     let mut source = MemSource::new(row.bytes, reads, row.failing_reads);
     let mut sink = MemSink::new(alloc, writes, row.failing_writes, ROOM)?;
-    let status = serve(rt, alloc, &row.words, &mut source, &mut sink, &NoGate);
+    let status = serve(rt, alloc, &row.words, &mut source, &mut sink, &gate);
     writeln!(out, "=> {}", exit_code(status))?;
+    if gate.was_late() {
+        writeln!(out, "  held too long")?;
+    }
     let lines = sink.held().iter().filter(|b| **b == b'\n').count();
     if is_long && lines > 1 {
         writeln!(out, "  {lines} lines")
