@@ -12,8 +12,7 @@ ghost use Rattle.sve_tree.specs.Elements.{definition_tree, package_tree, design_
 use std::alloc::Global;
 use sve_grammar::{Stop, accept, expect, is_kind};
 use sve_parse_decl::header;
-use sve_parse_flat_item::unit_items;
-use sve_parse_item::items;
+use sve_parse_item::{items, unit_items};
 use sve_parse_word::{module_keyword, optional_label, optional_lifetime};
 use sve_token::{Keyword, Kind, Token};
 use sve_tree::{Definition, Design, Mark, Package};

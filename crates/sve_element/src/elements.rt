@@ -13,7 +13,7 @@ ghost use Rattle.sve_element.specs.Chunk.{read_whole};
 use crate::designs::optional_design;
 use std::alloc::Global;
 use sve_grammar::Stop;
-use sve_parse_flat_item::unit_items;
+use sve_parse_item::unit_items;
 use sve_token::Token;
 use sve_tree::{Element, Word};
 

@@ -14,7 +14,7 @@ use crate::begins::{PackageForm, package_item_here};
 use std::alloc::Global;
 use sve_grammar::{Stop, expect};
 use sve_parse_decl::{import_declaration, parameter_declaration, type_declaration};
-use sve_parse_stmt::function;
+use sve_parse_procedure::function;
 use sve_token::{Kind, Token};
 use sve_tree::{Item, UnitItem};
 

@@ -6,3 +6,4 @@ mod boxes;
 mod generate;
 
 pub use generate::{item, items};
+pub use sve_parse_flat_item::unit_items;

@@ -5,3 +5,4 @@ mod events;
 mod procedures;
 
 pub use procedures::{clocked_procedure, plain_procedure};
+pub use sve_parse_stmt::function;
