@@ -1,9 +1,8 @@
 #!/usr/bin/env python3
-"""Prints how many files the gate reads to sum up what each library is made of, and in all.
+"""Prints how many ways lead down through crates.txt from each crate, the most first, and in all.
 
-The gate goes over the crates below a library once for each way that leads down to them, before and after it builds the library,
-so the count grows with the ways through crates.txt. A crate that lists a crate less, since another one passes a function on by
-`pub use`, can halve it."""
+The gate goes over the crates below a crate once for each way that leads down to them, several times, on one processor. A crate that
+lists a crate less, since another one passes a function on by `pub use`, can halve its ways."""
 import os
 
 root = os.path.join(os.path.dirname(os.path.abspath(__file__)), "..")
@@ -14,23 +13,15 @@ with open(os.path.join(root, "crates.txt"), encoding="utf-8") as lines:
         if colon:
             below[name.split()[0]] = names.split()
 
-
-def own_files(name):
-    folder = os.path.join(root, "crates", name)
-    parts = [os.path.join(folder, it) for it in ("src", "specs", "proofs")]
-    return sum(len(files) for part in parts for _, _, files in os.walk(part))
+counted = {}
 
 
-read = {}
+def ways(name):
+    if name not in counted:
+        counted[name] = 1 + sum(ways(it) for it in below[name] if it in below)
+    return counted[name]
 
 
-def files_read(name):
-    if name not in read:
-        read[name] = own_files(name) + sum(files_read(it) for it in below[name] if it in below)
-    return read[name]
-
-
-libraries = [it for it in below if os.path.exists(os.path.join(root, "crates", it, "src", "lib.rt"))]
-for name in sorted(libraries, key=files_read, reverse=True)[:20]:
-    print(f"{2 * files_read(name):>12,} {name}")
-print(f"{sum(2 * files_read(it) for it in libraries):>12,} in all")
+for name in sorted(below, key=ways, reverse=True)[:20]:
+    print(f"{ways(name):>12,} {name}")
+print(f"{sum(ways(it) for it in below):>12,} in all")
