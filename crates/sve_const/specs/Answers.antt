@@ -113,3 +113,10 @@ Evaluates (Err (Bad _)) (Ok w) m old new n = ⊥
 Evaluates (Err (Bad note)) (Err f) m old new n = (note ≡ note_at m f) × Spends old new n
 Evaluates (Err Over) a m old new n = IsOver old n
 Evaluates (Err NoMemory) a m old new n = Unit {0}
+
+-- where nodes were not evaluated to their end, the fuel is as it was
+abbrev pub Stays : Result Value ConstFault → Fuel → Fuel → Type 0
+Stays (Ok v) old new = Unit {0}
+Stays (Err (Bad _)) old new = Unit {0}
+Stays (Err Over) old new = new ≡ old
+Stays (Err NoMemory) old new = new ≡ old

@@ -4,7 +4,7 @@ ghost use Rattle.sve_operand.specs.Pending.{meaning_of};
 ghost use Rattle.sve_fault.specs.Counts.{IsFuel};
 ghost use Rattle.sve_env.specs.Nodes.{nodes};
 ghost use Rattle.sve_measure.specs.Constants.{measured};
-ghost use Rattle.sve_const.specs.Answers.{Sizes, Evaluates, assigned_of, assigned_value, text_value, evaluated, lone_pair};
+ghost use Rattle.sve_const.specs.Answers.{Sizes, Evaluates, Stays, assigned_of, assigned_value, text_value, evaluated, lone_pair};
 
 use crate::lone::{LoneText, lone_text};
 use std::alloc::Global;
@@ -64,8 +64,36 @@ pub fn size_sign<E: Env>(
 
 /// The value of an expression: by itself, or as it is assigned to a size, 1 to 128 bits, and a sign (10.7). By itself a string, or a
 /// name that has one, is a string value, of 1,024 bytes at the most. The count of fuel rises by the nodes; it is Over exactly where
-/// they pass the most, before any fault.
+/// they pass the most, before any fault, and leaves the fuel as it was there, as for want of memory.
 pub fn eval<E: Env>(
+    alloc: Global,
+    expr: &Expr,
+    env: &E,
+    context: Option<(u32, bool)>,
+    fuel: &mut Fuel,
+) -> Result<Value, ConstFault>
+    requires fuel { IsFuel fuel.old }
+    requires context { IfSome context (λ z. IsWidth z.0) }
+    ensures stays { Stays result fuel.old fuel.new }
+    ensures evaluates { Evaluates result (evaluated (E.told env.now) context expr.now) (E.told env.now) fuel.old fuel.new (nodes (E.told env.now) expr.now) }
+{
+    let before = *fuel;
+    match whole_value(alloc, expr, env, context, fuel) {
+        Err(ConstFault::Over) => {
+            *fuel = before;
+            Err(ConstFault::Over)
+        }
+        Err(ConstFault::NoMemory) => {
+            *fuel = before;
+            Err(ConstFault::NoMemory)
+        }
+        Err(ConstFault::Bad(note)) => Err(ConstFault::Bad(note)),
+        Ok(value) => Ok(value),
+    }
+}
+
+/// The value of an expression, which leaves any count behind where it is halted.
+fn whole_value<E: Env>(
     alloc: Global,
     expr: &Expr,
     env: &E,
