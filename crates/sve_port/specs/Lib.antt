@@ -1,0 +1,3 @@
+pub mod Manners
+pub mod Headings
+pub mod Ports
