@@ -1,0 +1,4 @@
+pub mod Passing
+pub mod Found
+pub mod Names
+pub mod Types
