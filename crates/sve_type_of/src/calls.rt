@@ -1,4 +1,4 @@
-ghost use Rattle.std.specs.Prelude.{◌≡◌, [], IfOk};
+ghost use Rattle.std.specs.Prelude.{◌≡◌, [], IfErr, IfOk};
 ghost use Rattle.sve_fault.specs.Counts.{IsFuel, Counts};
 ghost use Rattle.sve_env.specs.Nodes.{dimension_count};
 ghost use Rattle.sve_type_rule.specs.Outcomes.{outcome};
@@ -28,9 +28,8 @@ fn said<E: Env>(alloc: Global, typed: Outcome, env: &E) -> Result<Typed, NoMemor
     })
 }
 
-/// The type of a type by itself (IEEE 1800-2017, A.2.2.1), and what there is to say of it. Dimensions and the values of names are
-/// evaluated, and their nodes counted; it is Over exactly where they pass the most.
-pub fn type_of<E: Env>(
+/// The type of a type by itself, which leaves any count behind where it is halted.
+fn type_by_itself<E: Env>(
     alloc: Global,
     type_ref: &TypeRef,
     env: &E,
@@ -44,8 +43,8 @@ pub fn type_of<E: Env>(
     Ok(said(alloc, typed, env)?)
 }
 
-/// The type of a declared name, written or left out: at most a sign and packed dimensions are bits of four states (6.10).
-pub fn declared_type<E: Env>(
+/// The type of a declared name, which leaves any count behind where it is halted.
+fn written_or_left_out<E: Env>(
     alloc: Global,
     written: &DeclaredType,
     env: &E,
@@ -56,7 +55,7 @@ pub fn declared_type<E: Env>(
     ensures count { Counts result fuel.old fuel.new (declared_nodes (E.told env.now) written.now) }
 {
     match written {
-        DeclaredType::Explicit { data_type } => type_of(alloc, data_type, env, fuel),
+        DeclaredType::Explicit { data_type } => type_by_itself(alloc, data_type, env, fuel),
         DeclaredType::Implicit { sign, dimensions } => {
             let typed = implicit_typed(alloc, *sign, dimensions, Vec::new(alloc), env, fuel)?;
             Ok(said(alloc, typed, env)?)
@@ -64,8 +63,8 @@ pub fn declared_type<E: Env>(
     }
 }
 
-/// A type with unpacked dimensions before its own (7.4.2), and what there is to say of them.
-pub fn with_unpacked<E: Env>(
+/// A type with unpacked dimensions before its own, which leaves any count behind where it is halted.
+fn behind_unpacked<E: Env>(
     alloc: Global,
     ty: &Ty,
     dimensions: &[Dimension],
@@ -81,4 +80,74 @@ pub fn with_unpacked<E: Env>(
     let ranges = ranges(alloc, before, dimensions, env, fuel)?;
     let typed = unpacked(ty.copy(alloc)?, ranges)?;
     Ok(said(alloc, typed, env)?)
+}
+
+/// The type of a type by itself (IEEE 1800-2017, A.2.2.1), and what there is to say of it. Dimensions and the values of names are
+/// evaluated, and their nodes counted; it is Over exactly where they pass the most, and leaves the fuel as it was there, as for want
+/// of memory.
+pub fn type_of<E: Env>(
+    alloc: Global,
+    type_ref: &TypeRef,
+    env: &E,
+    fuel: &mut Fuel,
+) -> Result<Typed, Halted>
+    requires { IsFuel fuel.old }
+    ensures meaning { IfOk result (λ t. IsTyped t (E.told env.now) (referred (E.told env.now) type_ref.now [])) }
+    ensures count { Counts result fuel.old fuel.new (type_nodes (E.told env.now) type_ref.now) }
+    ensures stays { IfErr result (λ _. fuel.new ≡ fuel.old) }
+{
+    let before = *fuel;
+    match type_by_itself(alloc, type_ref, env, fuel) {
+        Ok(typed) => Ok(typed),
+        Err(halted) => {
+            *fuel = before;
+            Err(halted)
+        }
+    }
+}
+
+/// The type of a declared name, written or left out: at most a sign and packed dimensions are bits of four states (6.10). It counts
+/// as [`type_of`] does.
+pub fn declared_type<E: Env>(
+    alloc: Global,
+    written: &DeclaredType,
+    env: &E,
+    fuel: &mut Fuel,
+) -> Result<Typed, Halted>
+    requires { IsFuel fuel.old }
+    ensures meaning { IfOk result (λ t. IsTyped t (E.told env.now) (declared (E.told env.now) written.now)) }
+    ensures count { Counts result fuel.old fuel.new (declared_nodes (E.told env.now) written.now) }
+    ensures stays { IfErr result (λ _. fuel.new ≡ fuel.old) }
+{
+    let before = *fuel;
+    match written_or_left_out(alloc, written, env, fuel) {
+        Ok(typed) => Ok(typed),
+        Err(halted) => {
+            *fuel = before;
+            Err(halted)
+        }
+    }
+}
+
+/// A type with unpacked dimensions before its own (7.4.2), and what there is to say of them. It counts as [`type_of`] does.
+pub fn with_unpacked<E: Env>(
+    alloc: Global,
+    ty: &Ty,
+    dimensions: &[Dimension],
+    env: &E,
+    fuel: &mut Fuel,
+) -> Result<Typed, Halted>
+    requires { IsFuel fuel.old }
+    ensures meaning { IfOk result (λ t. IsTyped t (E.told env.now) (unpacked_over (E.told env.now) ty.now dimensions.now)) }
+    ensures count { Counts result fuel.old fuel.new (dimension_count (E.told env.now) dimensions.now) }
+    ensures stays { IfErr result (λ _. fuel.new ≡ fuel.old) }
+{
+    let before = *fuel;
+    match behind_unpacked(alloc, ty, dimensions, env, fuel) {
+        Ok(typed) => Ok(typed),
+        Err(halted) => {
+            *fuel = before;
+            Err(halted)
+        }
+    }
 }
