@@ -1,0 +1,3 @@
+mod OneLine
+mod Room
+mod Whole
