@@ -1,0 +1,4 @@
+pub mod Known
+pub mod Within
+pub mod Values
+pub mod Resolving
