@@ -15,5 +15,5 @@ halts_on (Err e) h old here new all left now later is most parts same halts = rw
 pub returns-in_err-resolving-clause-count : goal.returns-in_err-resolving-clause-count
 returns-in_err-resolving-clause-count g c =
     halts_on c.from_residual.result c.in_err-resolving.field-0.0 c.args.fuel.now c.ports.fuel _ _ _ _ _ c.from_residual.ensures.1 c.ports.invariant.most
-        (parameter_counted (g.E.Env.told c.args.env.now) c.args.given.now c.args.ports.now c.ports.port-index c.port-item.result c.ports.resolving c.ports-test.true c.port-item.is)
-        c.ports.invariant.counts c.in_err-resolving.ensures.count
+    (parameter_counted (g.E.Env.told c.args.env.now) c.args.given.now c.args.ports.now c.ports.port-index c.port-item.result c.ports.resolving c.ports-test.true c.port-item.is)
+    c.ports.invariant.counts c.in_err-resolving.ensures.count
