@@ -1,6 +1,7 @@
 -- A pass meets the whole log, and an entry of its own.
-use Rattle.std.proofs.Common.{◌≡◌, ℕ, suc, ◌+◌, ◌≤◌, ◌<◌, Bool, true, false, cond, leb, eqb, List, [], ◌∷◌, ◌++◌, length, if◌then◌else◌, refl, ap, sym, ◌∙◌, subst, ⊎_elim, arith, append_assoc, length-append}
+use Rattle.std.proofs.Common.{◌≡◌, ℕ, zero, suc, ◌+◌, ◌≤◌, ◌<◌, Bool, true, false, cond, leb, eqb, List, [], ◌∷◌, ◌++◌, length, drop, if◌then◌else◌, refl, ap, sym, ◌∙◌, subst, ⊎_elim, arith, append_assoc, length-append}
 use Rattle.std.specs.Prelude.{Contains, nat_eq}
+use Rattle.std.specs.List.{slice_index_or}
 use Rattle.std.proofs.lemmas.List.{append-nil}
 use Rattle.std.proofs.lemmas.List.Elements.{filter-append, Contains-push}
 use Rattle.std.proofs.lemmas.Bool.Decides.{leb_tells, eqb_tells}
@@ -9,7 +10,7 @@ use Rattle.sve_board.specs.declared.knowledge.Entry.{Entry}
 use Rattle.sve_board.specs.Log.{entries_of, longer, largest, with_length}
 use Rattle.sve_board.specs.Values.{PassValue}
 use Rattle.sve_board.proofs.Prefixes.{entries_of-prefix, largest-push}
-use Rattle.sve_watch.specs.Looks.{HasLooked}
+use Rattle.sve_watch.specs.Looks.{looks_of, HasLooked}
 use Rattle.sve_watch.proofs.Seen.{looks_are, with_look}
 use Rattle.sve_session.specs.Commits.{entry}
 use Rattle.sve_session.specs.Meeting.{HasMet}
@@ -52,6 +53,20 @@ largest_more (x ∷ xs) more = omega (arith, largest_more xs more)
 
 pub largest_prefix : (xs ys : List ℕ) → IsPrefix xs ys → largest xs ≤ largest ys
 largest_prefix xs ys p = subst (λ (l : List ℕ). largest xs ≤ largest l) p.1 (largest_more xs p.0)
+
+largest_at : (looks : List ℕ) (k n : ℕ) → k < length looks → slice_index_or looks k n ≡ n → n ≤ largest looks
+largest_at [] k n lt at = absurd (omega (arith, lt))
+largest_at (x ∷ looks) zero n lt at = let same : x ≡ n = at in omega (arith, same)
+largest_at (x ∷ looks) (suc k) n lt at = omega (arith, largest_at looks k n (omega (arith, lt)) at)
+
+largest_left : (n : ℕ) (looks : List ℕ) → largest (drop n looks) ≤ largest looks
+largest_left zero looks = omega arith
+largest_left (suc n) [] = omega arith
+largest_left (suc n) (x ∷ looks) = omega (arith, largest_left n looks)
+
+-- a look of a call is not above the looks behind it
+pub look_below : (before after : PassValue) (n : ℕ) → Contains (looks_of before after) n → n ≤ largest after.looks
+look_below before after n (k, lt, at) = omega (arith, largest_at (looks_of before after) k n lt at, largest_left (length before.looks) after.looks)
 
 -- what `meet` ensures, where the note is this log
 pub record Meets (y : PassValue) (log : List Entry) (z : PassValue) : Type 0 where

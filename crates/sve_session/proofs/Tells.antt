@@ -24,11 +24,11 @@ use Rattle.sve_core.specs.Commits.{commit_told}
 use Rattle.sve_watch.specs.Looks.{looks_of, HasLooked}
 use Rattle.sve_watch.proofs.Seen.{looks_are}
 use Rattle.sve_session.specs.Shared.{history_of}
-use Rattle.sve_session.specs.Passes.{IsLater, IsReady}
+use Rattle.sve_session.specs.Passes.{IsLater, IsReady, HasGoneOn}
 use Rattle.sve_session.specs.Commits.{entry, IsTold}
 use Rattle.sve_session.specs.Asks.{IsBegun, HasSeen, MayAnswer, IsOutcome}
 use Rattle.sve_session.specs.Meeting.{HasMet}
-use Rattle.sve_session.proofs.Meets.{with_entry}
+use Rattle.sve_session.proofs.Meets.{with_entry, look_below}
 use Rattle.sve_session.proofs.Entries.{history_of-length}
 
 module _ (x y : PassValue) (log : List LogEntry) (met : HasMet log x y) where
@@ -37,6 +37,9 @@ module _ (x y : PassValue) (log : List LogEntry) (met : HasMet log x y) where
 
   pub ready_met : (table : TableId) → IsReady table x → IsReady table y
   ready_met table is = record { board = met.table ∙ is.board; even = met.raises ∙ is.even ∙ ap length (sym met.mine) }
+
+  pub gone_on : (table : TableId) → IsReady table x → HasGoneOn table x y
+  gone_on table is = record { later = later_met; ready = ready_met table is; mine = met.mine }
 
   -- what `add_entry` asks of the pass
   pub may_add : (log' : List LogEntry) → log' ≡ log → (y.seen ≡ log') × (y.mine ≡ entries_of y.number log') × (largest y.looks ≤ length log')
@@ -115,6 +118,10 @@ module _ (x y : PassValue) (log : List LogEntry) (met : HasMet log x y) where
             board = ap (λ (p : PassValue). p.table) z_is ∙ ready.board;
             even = omega (arith, ap (λ (p : PassValue). p.raises) z_is, ready.even, ap (λ (p : PassValue). length p.mine) z_is, length-append y.mine (entry y.number command ∷ []));
           }
+
+-- of two passes that met one log, the one is not behind what the other had looked up
+pub not_behind : (x y u v : PassValue) (log log' : List LogEntry) → HasMet log x y → HasMet log' u v → log' ≡ log → largest x.looks ≤ largest v.looks
+not_behind x y u v log log' first second same = omega (arith, first.not_below, ap length same, look_below u v (length log') second.look)
 
 -- a snapshot of all that the pass has seen is one that it has seen
 pub has_seen : (opening : FilesValue) (table : Table) (before after : PassValue) (snapshot : SnapshotValue) → IsBegun opening table before after snapshot → HasSeen opening table after snapshot

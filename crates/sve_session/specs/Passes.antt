@@ -15,6 +15,12 @@ pub record IsReady (table : TableId) (pass : PassValue) : Type 0 where
   pub board : pass.table ≡ table
   pub even : pass.raises ≡ length pass.mine
 
+-- the call leaves the pass ready for the next, with the entries of its client that it had
+pub record HasGoneOn (table : TableId) (before after : PassValue) : Type 0 where
+  pub later : IsLater before after
+  pub ready : IsReady table after
+  pub mine : after.mine ≡ before.mine
+
 -- the commands of the pass's client that it has seen in the log have lower numbers
 abbrev pub IsNext : PassValue → ℕ → Type 0
 IsNext pass command = All (λ entry. entry.command < command) pass.mine

@@ -1,12 +1,13 @@
 //! Sessions and their calls.
 ghost use Rattle.std.specs.Prelude.{◌≡◌, ℕ, ◌<◌, ◌≤◌, ◌^◌, [], length, slice_get, Some, IfOk, OnErr, IsTrue};
+ghost use Rattle.sve_board.specs.Log.{largest};
 ghost use Rattle.sve_board.specs.Values.{PassValue};
 ghost use Rattle.sve_text.specs.declared.edit.Mode.TheVariants.{Pinned};
 ghost use Rattle.sve_history.specs.Histories.{IsOpening};
 ghost use Rattle.sve_store.specs.Made.{values_of};
 ghost use Rattle.sve_store.specs.Values.{IsAnswer};
 ghost use Rattle.sve_watch.specs.Looks.{HasLooked};
-ghost use Rattle.sve_session.specs.Passes.{IsLater, IsReady, IsNext};
+ghost use Rattle.sve_session.specs.Passes.{IsLater, IsReady, HasGoneOn, IsNext};
 ghost use Rattle.sve_session.specs.Commits.{IsTold};
 ghost use Rattle.sve_session.specs.Asks.{IsBegun, HasSeen, IsOutcome};
 ghost use Rattle.sve_session.specs.Ends.{IsEnded, EndsPass};
@@ -132,6 +133,19 @@ impl<K: Kinds, P: Plan> Session<K, P> {
         self.shared
             .lock(rt)
             .publish(rt, &self.board, pass, base, fresh)
+    }
+
+    /// Lets a pass meet the history, and with it one that may have been told of more. Its client is then not behind the
+    /// other one: a commit or an ask to come is told of no revision below those that the other pass has looked up. It may
+    /// wait for the lock.
+    pub fn follow<R: Wait>(&self, rt: &R, pass: &mut Pass, earlier: &mut Pass)
+        requires pass { IsReady P.board.table pass.old }
+        requires earlier { IsReady P.board.table earlier.old }
+        ensures pass { HasGoneOn P.board.table pass.old pass.new }
+        ensures earlier { HasGoneOn P.board.table earlier.old earlier.new }
+        ensures not_below { largest earlier.old.looks ≤ largest pass.new.looks }
+    {
+        self.shared.lock(rt).follow(rt, &self.board, pass, earlier)
     }
 
     /// Ends the session, and gives its history. What each pass that is handed in has seen begins the history, and the

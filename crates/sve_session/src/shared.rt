@@ -3,7 +3,7 @@ ghost use Rattle.std.specs.Prelude.{◌≡◌, ℕ, ◌+◌, ◌<◌, ◌≤◌,
 ghost use Rattle.sve_board.specs.Log.{entries_of, largest};
 ghost use Rattle.sve_history.specs.Histories.{IsOpening, IsLegal};
 ghost use Rattle.sve_session.specs.Shared.{history_of};
-ghost use Rattle.sve_session.specs.Passes.{IsLater, IsReady, IsNext};
+ghost use Rattle.sve_session.specs.Passes.{IsLater, IsReady, HasGoneOn, IsNext};
 ghost use Rattle.sve_session.specs.Commits.{entry, IsTold};
 ghost use Rattle.sve_session.specs.Asks.{IsBegun, HasSeen};
 ghost use Rattle.sve_session.specs.Meeting.{HasMet};
@@ -140,6 +140,26 @@ impl<K: Kinds, P: Plan> Shared<K, P> {
         let length = self.core.history().len();
         meet_log(rt, board, &mut self.writer, pass, length);
         self.core.publish(base, fresh)
+    }
+
+    /// Lets both passes meet the whole log.
+    pub(crate) fn follow<R: Wait>(
+        &mut self,
+        rt: &R,
+        board: &Board,
+        pass: &mut Pass,
+        earlier: &mut Pass,
+    )
+        requires board { board.now ≡ P.board }
+        requires pass { IsReady P.board.table pass.old }
+        requires earlier { IsReady P.board.table earlier.old }
+        ensures pass { HasGoneOn P.board.table pass.old pass.new }
+        ensures earlier { HasGoneOn P.board.table earlier.old earlier.new }
+        ensures not_below { largest earlier.old.looks ≤ largest pass.new.looks }
+    {
+        let length = self.core.history().len();
+        meet_log(rt, board, &mut self.writer, earlier, length);
+        meet_log(rt, board, &mut self.writer, pass, length);
     }
 }
 
