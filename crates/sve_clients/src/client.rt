@@ -1,7 +1,7 @@
 //! What a client does.
-ghost use Rattle.std.specs.Prelude.{◌≡◌, ℕ};
-ghost use Rattle.sve_board.specs.Log.{IsClient};
-ghost use Rattle.sve_board.specs.Values.{PassValue, new_pass};
+ghost use Rattle.std.specs.Prelude.{◌≡◌, ◌≤◌, ℕ, []};
+ghost use Rattle.sve_board.specs.Log.{IsClient, largest};
+ghost use Rattle.sve_board.specs.Values.{PassValue};
 ghost use Rattle.sve_text.specs.Files.{FilesValue};
 ghost use Rattle.sve_history.specs.Histories.{Table};
 ghost use Rattle.sve_session.specs.Passes.{IsReady};
@@ -28,10 +28,11 @@ pub trait Client<K: Kinds> {
     ghost edits: { Self → Table };
 
     // Whether a client of this number may leave this, of a session with these opening files and at most so many entries,
-    // beside a pass that knows this.
-    ghost leaves: { Self → FilesValue → ℕ → ℕ → PassValue → Self.Left → Type 0 };
+    // where it began at this front, beside a pass that knows this. A front is a length of the history that its pass was
+    // told of.
+    ghost leaves: { Self → FilesValue → ℕ → ℕ → ℕ → PassValue → Self.Left → Type 0 };
 
-    /// Does all that the pass's client does, from a pass that has seen nothing. It may wait.
+    /// Does all that the pass's client does, which has no entry yet. It may wait.
     fn run<P: Plan, R: Wait>(
         &self,
         rt: &R,
@@ -40,9 +41,10 @@ pub trait Client<K: Kinds> {
         pass: Pass,
     ) -> Ran<Self::Left>
         requires plan { P.table ≡ edits self.now }
-        requires pass { pass ≡ new_pass P.board.table pass.number }
+        requires pass { IsReady P.board.table pass }
+        requires none { pass.mine ≡ [] }
         requires client { IsClient P.board.clients pass.number }
         ensures ready { IsReady P.board.table result.pass }
         ensures number { result.pass.number ≡ pass.number }
-        ensures does { leaves self.now P.opening P.most pass.number result.pass result.left };
+        ensures does { (front : ℕ) → front ≤ largest pass.looks → leaves self.now P.opening P.most pass.number front result.pass result.left };
 }

@@ -1,13 +1,12 @@
-use Rattle.std.proofs.Common.{◌≡◌, ◌+◌, ◌<◌, ℕ, List, length, get_or, sym, ◌∙◌, ap, subst, arith}
+use Rattle.std.proofs.Common.{◌≡◌, ◌+◌, ◌<◌, ℕ, List, length, get_or, ◌∙◌, ap, subst, arith}
 use Rattle.std.proofs.Crossing.{crosses}
 use denote.Param.Send.{sendable}
 use Rattle.sve_board.proofs.board.Board.TheSendSync as board
 use Rattle.sve_board.proofs.seats.WriterSeat.TheSendSync as writer
-use Rattle.sve_board.specs.Values.{PassValue, new_pass}
+use Rattle.sve_board.specs.Values.{PassValue}
 use Rattle.sve_clients.proofs.Crossing.{history_send}
-use Rattle.sve_clients.specs.declared.client.Ran.{Ran}
-use Rattle.sve_clients.specs.Runs.{HasRun}
-use Rattle.sve_clients.proofs.Places.{pass_at, passes-length, get_read}
+use Rattle.sve_clients.specs.Runs.{HasRun, HasDone}
+use Rattle.sve_clients.proofs.Places.{passes-length, pass_at, new_ready, new_none, get_read, done, all_done}
 use Rattle.sve_clients.proofs.runs.run_at_once.Goals as goal
 
 pub map_vec-requires-after_bounds : goal.map_vec-requires-after_bounds
@@ -16,7 +15,7 @@ map_vec-requires-after_bounds g c κs within = λ i x lt at.
     let clients : ℕ = g.P.Plan.board.clients in
     let is = pass_at table clients i c.args.passes.items x c.requires.passes lt at in
     let number : x.number ≡ i + 1 = ap (λ (p : PassValue). p.number) is in
-    (c.requires.plan, is ∙ ap (new_pass table) (sym number), (omega (arith, number), omega (arith, number, lt, ap length c.requires.passes, passes-length table clients)))
+    (c.requires.plan, new_ready table (i + 1) x is, new_none table (i + 1) x is, (omega (arith, number), omega (arith, number, lt, ap length c.requires.passes, passes-length table clients)))
 
 -- a client's call shares the session and the client, whatever they are made of
 pub map_vec-requires-sync-F : goal.map_vec-requires-sync-F
@@ -36,16 +35,17 @@ returns-clause-count g c =
     let clients : ℕ = g.P.Plan.board.clients in
     omega (arith, c.in_ok-rans.ensures.len, c.in_ok-rans.rans.ok, c.args.passes.ok, ap length c.requires.passes, passes-length table clients)
 
-pub returns-clause-each : goal.returns-clause-each
-returns-clause-each g c = λ i ran at.
+pub returns-clause-done : goal.returns-clause-done
+returns-clause-done g c =
     let table = g.P.Plan.board.table in
     let clients : ℕ = g.P.Plan.board.clients in
     let passes : List PassValue = c.args.passes.items in
     let size : length c.in_ok-rans.rans.items ≡ length passes = omega (arith, c.in_ok-rans.ensures.len, c.in_ok-rans.rans.ok, c.args.passes.ok) in
+    let leaves = g.C.Client.leaves c.args.client.now g.P.Plan.opening g.P.Plan.most in
+    all_done leaves table 1 c.in_ok-rans.rans.items (λ i ran at.
     let read = get_read c.in_ok-rans.rans.items i ran at in
     let lt : i < length passes = omega (arith, read.0, size) in
     let job = (c.in_ok-rans.ensures.each i ran lt).1 in
-    let number : job.job.number ≡ i + 1 = ap (λ (p : PassValue). p.number) (pass_at table clients i passes job.job c.requires.passes lt job.job_read) in
-    let leaves = g.C.Client.leaves c.args.client.now g.P.Plan.opening g.P.Plan.most in
-    let met : HasRun leaves table job.job.number (get_or c.in_ok-rans.rans.items i ran) = job.call.met in
-    subst (λ (q : ℕ × Ran g.row.C-Left.Denot). HasRun leaves table q.0 q.1) (λ k. (number k, read.1 k)) met
+    let number : job.job.number ≡ 1 + i = ap (λ (p : PassValue). p.number) (pass_at table clients i passes job.job c.requires.passes lt job.job_read) ∙ omega arith in
+    let met : HasRun leaves table job.job (get_or c.in_ok-rans.rans.items i ran) = job.call.met in
+    subst (HasDone leaves table (1 + i) 0) read.1 (done leaves table (1 + i) 0 job.job (get_or c.in_ok-rans.rans.items i ran) number (omega arith) met))
