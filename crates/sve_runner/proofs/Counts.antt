@@ -9,7 +9,7 @@ use Rattle.sve_board.specs.Log.{AreOfClients, entries_of}
 use Rattle.sve_command.specs.declared.commands.Command.{Command}
 
 -- how many entries so many clients have together, from this one on
-abbrev tally : ℕ → ℕ → List LogEntry → ℕ
+abbrev pub tally : ℕ → ℕ → List LogEntry → ℕ
 tally from zero log = 0
 tally from (suc count) log = length (entries_of from log) + tally (from + 1) count log
 

@@ -19,7 +19,10 @@ use Rattle.sve_store.specs.declared.answer.Answer.TheVariants.{Done, Spent as Un
 use Rattle.sve_session.specs.Shared.{with_edits, without_edits, history_of, log_of}
 use Rattle.sve_session.specs.Commits.{entry}
 use Rattle.sve_session.specs.Ends.{IsEnded, EndsPass}
-use Rattle.sve_clients.specs.Runs.{HasLeft as HasLeftWith}
+use Rattle.sve_clients.specs.declared.runs.Order.{Order}
+use Rattle.sve_clients.specs.declared.runs.Order.TheVariants.{AtOnce, InTurn}
+use Rattle.sve_clients.specs.Runs.{next_front, HasLeft as HasLeftWith, HaveLeft as HaveLeftWith}
+use Rattle.sve_clients.proofs.Places.{left_from}
 use Rattle.sve_command.specs.declared.commands.Command.{Command}
 use Rattle.sve_command.specs.declared.commands.Command.TheVariants.{Commit, Ask}
 use Rattle.sve_command.specs.declared.commands.Query.{Query}
@@ -27,7 +30,7 @@ use Rattle.sve_report.specs.declared.entry.Entry.{Entry}
 use Rattle.sve_report.specs.declared.record.Record.{Record}
 use Rattle.sve_report.specs.declared.record.Record.TheVariants.{Accepted, Refused, Answered, Cancelled, Spent}
 use Rattle.sve_runner.specs.declared.terms.Terms.{Terms}
-use Rattle.sve_runner.specs.Honest.{budget_under, commands_at, command_in, edits_in, told_entry, told_entries, script_entries, front_after, accepted_from, is_commit, IsOfScript, files_of, IsHonest, Walks, AreHonestFrom, AreHonest}
+use Rattle.sve_runner.specs.Honest.{budget_under, commands_at, command_in, edits_in, told_entry, told_entries, script_entries, front_after, front_at, accepted_from, is_commit, IsOfScript, files_of, IsHonest, Walks, AreHonestFrom, AreHonest}
 use Rattle.sve_runner.specs.Told.{IsHonestIn, WalksIn, HasWalked, HasLeft, all_told}
 use Rattle.sve_runner.specs.declared.stop.Stop.{Stop}
 use Rattle.sve_runner.specs.declared.stop.Stop.TheVariants.{Full}
@@ -70,7 +73,7 @@ module _ (table : Table) where
   chosen true e made log same = ap (λ (l : List ℕ). e.command ∷ l) same
   chosen false e made log same = same
 
-  commands_are : (i : ℕ) (log : List LogEntry) → commands_of i (map (with_edits table) log) ≡ map (λ (x : LogEntry). x.command) (entries_of i log)
+  pub commands_are : (i : ℕ) (log : List LogEntry) → commands_of i (map (with_edits table) log) ≡ map (λ (x : LogEntry). x.command) (entries_of i log)
   commands_are i [] = refl
   commands_are i (e ∷ log) = chosen (nat_eq e.client i) e _ (entries_of i log) (commands_are i log)
 
@@ -187,26 +190,15 @@ module _ (answers : FilesValue → Query → ℕ → Answer → Type 0) (terms :
     pub walked : Walks answers terms opening clients (told_entries history) i 1 0 (commands_at clients i) recs
     pub own : commands_of i (script_entries clients (told_entries history)) ≡ accepted_from 1 recs
 
-  is_one : (i : ℕ) (pass : PassValue) (recs : List Record) → pass.number ≡ i → EndsPass history pass → HasWalked answers terms opening (edits_in clients) i (commands_at clients i) pass recs → IsOne i recs
+  its_own_entries : (i : ℕ) (pass : PassValue) (recs : List Record) → pass.number ≡ i → EndsPass history pass → map (λ (e : LogEntry). e.command) pass.mine ≡ accepted_from 1 recs → commands_of i (script_entries clients (told_entries history)) ≡ accepted_from 1 recs
+  its_own_entries i pass recs who ends own =
+      ap (commands_of i) (script_made ∙ made) ∙ commands_are (edits_in clients) i (log_of history.entries) ∙ ap (map (λ (e : LogEntry). e.command)) (ap (λ (n : ℕ). entries_of n (log_of history.entries)) (sym who) ∙ ends.mine) ∙ own
+
+  is_one : (i : ℕ) (pass : PassValue) (recs : List Record) → pass.number ≡ i → EndsPass history pass → HasWalked answers terms opening (edits_in clients) i 0 (commands_at clients i) pass recs → IsOne i recs
   is_one i pass recs who ends told = record {
     walked = walks i 1 0 (commands_at clients i) recs (walks_later answers terms opening (edits_in clients) pass.seen (log_of history.entries) (largest pass.looks) (length history.entries) i 1 0 (commands_at clients i) recs ends.seen ends.looks told.walks);
-    own = ap (commands_of i) (script_made ∙ made) ∙ commands_are (edits_in clients) i (log_of history.entries) ∙ ap (map (λ (e : LogEntry). e.command)) (ap (λ (n : ℕ). entries_of n (log_of history.entries)) (sym who) ∙ ends.mine) ∙ told.own;
+    own = its_own_entries i pass recs who ends told.own;
   }
-
-  all_from : (i : ℕ) (rest : List (List Command)) (records : List (List Record)) → length records ≡ length rest → ((m : ℕ) → m < length rest → commands_at clients (i + m) ≡ slice_index_or rest m [])
-      → ((m : ℕ) (recs : List Record) → slice_get records m ≡ Some recs → IsOne (i + m) recs) → AreHonestFrom answers terms opening clients (told_entries history) i rest records
-  all_from i [] [] count are each = tt
-  all_from i [] (recs ∷ records) count are each = absurd (omega (arith, count))
-  all_from i (commands ∷ rest) [] count are each = absurd (omega (arith, count))
-  all_from i (commands ∷ rest) (recs ∷ records) count are each =
-      let here : i + 0 ≡ i = omega arith in
-      let one = subst (λ (n : ℕ). IsOne n recs) here (each 0 recs refl) in
-      let its : commands_at clients i ≡ commands = ap (commands_at clients) (sym here) ∙ are 0 (omega arith) in
-      let next : (m : ℕ) → i + suc m ≡ i + 1 + m = λ m. omega arith in (
-        subst (λ (cs : List Command). Walks answers terms opening clients (told_entries history) i 1 0 cs recs) its one.walked,
-        one.own,
-        all_from (i + 1) rest records (omega (arith, count)) (λ m lt. ap (commands_at clients) (sym (next m)) ∙ are (suc m) (omega (arith, lt))) (λ m rs at. subst (λ (n : ℕ). IsOne n rs) (next m) (each (suc m) rs at)),
-      )
 
   -- the commands behind the first of those that are left
   next_at : (i j : ℕ) (command : Command) (commands : List Command) → 1 ≤ j → ((m : ℕ) → slice_get (command ∷ commands) m ≡ slice_get (commands_at clients i) (j - 1 + m)) → (m : ℕ) → slice_get commands m ≡ slice_get (commands_at clients i) (j + 1 - 1 + m)
@@ -231,54 +223,81 @@ module _ (answers : FilesValue → Query → ℕ → Answer → Type 0) (terms :
   some_at (x ∷ xs) zero lt = (x, refl)
   some_at (x ∷ xs) (suc k) lt = some_at xs k (omega (arith, lt))
 
-  pub are_honest : (records : List (List Record)) → length records ≡ length clients → ((m : ℕ) (recs : List Record) → slice_get records m ≡ Some recs → IsOne (1 + m) recs) → AreHonest answers terms opening clients (told_entries history) records
-  are_honest records count each = record {
-    legal = subst (λ (l : List Made). IsLegal (record { opening = opening; entries = l })) (sym (script_made ∙ made)) (subst IsLegal ended.plan ended.legal);
-    theirs = subst (AllByRecursion (IsOfScript clients)) (sym (told_are history.entries))
-        (are_of_script clients (length clients) (log_of history.entries) ended.theirs (λ i (positive, few).
-        let found = some_at records (i - 1) (omega (arith, positive, few, count)) in
-        let number : 1 + (i - 1) ≡ i = omega (arith, positive) in
-        let one = subst (λ (n : ℕ). IsOne n found.0) number (each (i - 1) found.0 found.1) in
-        let all = accepted_commits i 1 0 (commands_at clients i) found.0 (omega arith) (λ m. ap (slice_get (commands_at clients i)) (let e : m ≡ 1 - 1 + m = omega arith in e)) one.walked in
-        subst (AllByRecursion (IsCommit clients i)) (sym one.own ∙ ap (commands_of i) (script_made ∙ made) ∙ commands_are (edits_in clients) i (log_of history.entries)) all));
-    told = all_from 1 clients records count (λ m lt. ap (λ (k : ℕ). slice_index_or clients k []) (let e : 1 + m - 1 ≡ m = omega arith in e)) each;
-  }
+  -- entries are of commits of the script, where each client's records are honest
+  are_theirs : (records : List (List Record)) → length records ≡ length clients → ((m : ℕ) (recs : List Record) → slice_get records m ≡ Some recs → IsOne (1 + m) recs) → AllByRecursion (IsOfScript clients) (told_entries history)
+  are_theirs records count each =
+      subst (AllByRecursion (IsOfScript clients)) (sym (told_are history.entries))
+      (are_of_script clients (length clients) (log_of history.entries) ended.theirs (λ i (positive, few).
+      let found = some_at records (i - 1) (omega (arith, positive, few, count)) in
+      let number : 1 + (i - 1) ≡ i = omega (arith, positive) in
+      let one = subst (λ (n : ℕ). IsOne n found.0) number (each (i - 1) found.0 found.1) in
+      let all = accepted_commits i 1 0 (commands_at clients i) found.0 (omega arith) (λ m. ap (slice_get (commands_at clients i)) (let e : m ≡ 1 - 1 + m = omega arith in e)) one.walked in
+      subst (AllByRecursion (IsCommit clients i)) (sym one.own ∙ ap (commands_of i) (script_made ∙ made) ∙ commands_are (edits_in clients) i (log_of history.entries)) all))
 
-  -- the records of a client that left them
-  left_one : (most i : ℕ) (recs : List Record) → HasLeftWith (λ number pass left. HasLeft answers terms opening (edits_in clients) most number (commands_at clients number) pass left) history i (Ok recs) → IsOne i recs
-  left_one most i recs left = is_one i left.pass recs left.who left.ends left.does.does
+  -- what a client may leave beside its pass
+  abbrev pub Leaves : ℕ → ℕ → ℕ → PassValue → Result (List Record) Stop → Type 0
+  Leaves most number front pass left = HasLeft answers terms opening (edits_in clients) most number front (commands_at clients number) pass left
 
-  module _ (most : ℕ) (lefts : List (Result (List Record) Stop)) (count : length lefts ≡ length clients)
-      (each : (i : ℕ) (left : Result (List Record) Stop) → slice_get lefts i ≡ Some left → HasLeftWith (λ number pass left. HasLeft answers terms opening (edits_in clients) most number (commands_at clients number) pass left) history (i + 1) left) where
+  -- the records of a client that left them, from any front that it reached
+  left_one : (most i : ℕ) (recs : List Record) → HasLeftWith (Leaves most) history i 0 (Ok recs) → IsOne i recs
+  left_one most i recs left = is_one i left.pass recs left.who left.ends (left.does 0 (omega arith)).does
+
+  next_reached : (order : Order) (front top : ℕ) → front ≤ top → next_front order front ≤ next_front order top
+  next_reached AtOnce front top le = omega arith
+  next_reached InTurn front top le = le
+
+  honest_from : (most i front top : ℕ) (rest : List (List Command)) (records : List (List Record)) → front ≤ top → length records ≡ length rest → ((m : ℕ) → m < length rest → commands_at clients (i + m) ≡ slice_index_or rest m [])
+      → HaveLeftWith (Leaves most) terms.order history i top (all_told records) → AreHonestFrom answers terms opening clients (told_entries history) i front rest records
+  honest_from most i front top [] [] le count are all = tt
+  honest_from most i front top [] (recs ∷ records) le count are all = absurd (omega (arith, count))
+  honest_from most i front top (commands ∷ rest) [] le count are all = absurd (omega (arith, count))
+  honest_from most i front top (commands ∷ rest) (recs ∷ records) le count are (one, others) =
+      let told = (one.does front le).does in
+      let here : i + 0 ≡ i = omega arith in
+      let its : commands_at clients i ≡ commands = ap (commands_at clients) (sym here) ∙ are 0 (omega arith) in
+      let next : (m : ℕ) → i + suc m ≡ i + 1 + m = λ m. omega arith in (
+        subst (λ (cs : List Command). Walks answers terms opening clients (told_entries history) i 1 front cs recs) its
+            (walks i 1 front (commands_at clients i) recs (walks_later answers terms opening (edits_in clients) one.pass.seen (log_of history.entries) (largest one.pass.looks) (length history.entries) i 1 front (commands_at clients i) recs one.ends.seen one.ends.looks told.walks)),
+        its_own_entries i one.pass recs one.who one.ends told.own,
+        honest_from most (i + 1) (next_front terms.order (front_at front recs)) (next_front terms.order (largest one.pass.looks)) rest records (next_reached terms.order (front_at front recs) (largest one.pass.looks) told.reached) (omega (arith, count))
+            (λ m lt. ap (commands_at clients) (sym (next m)) ∙ are (suc m) (omega (arith, lt))) others,
+      )
+
+  module _ (most : ℕ) (lefts : List (Result (List Record) Stop)) (count : length lefts ≡ length clients) (all : HaveLeftWith (Leaves most) terms.order history 1 0 lefts) where
+    each : (i : ℕ) (left : Result (List Record) Stop) → slice_get lefts i ≡ Some left → HasLeftWith (Leaves most) history (1 + i) 0 left
+    each i left at = left_from (Leaves most) terms.order history 1 0 lefts all i left at
+
     -- no client has more entries than commands
     few : AreAtMost 1 clients (log_of history.entries)
     few m lt =
         let found = left_at lefts m (omega (arith, lt, count)) in
         let left = each m found.0 found.1 in
-        let number : left.pass.number ≡ 1 + m = left.who ∙ omega arith in
+        let number : left.pass.number ≡ 1 + m = left.who in
         let own : length (entries_of (1 + m) (log_of history.entries)) ≡ length left.pass.mine = ap (λ (n : ℕ). length (entries_of n (log_of history.entries))) (sym number) ∙ ap (λ (l : List LogEntry). length l) left.ends.mine in
-        let place : m + 1 - 1 ≡ m = omega arith in
-        let commands : length (commands_at clients (m + 1)) ≡ length (slice_index_or clients m []) = ap (λ (k : ℕ). length (slice_index_or clients k [])) place in
-        omega (arith, own, left.does.few, commands)
+        let place : 1 + m - 1 ≡ m = omega arith in
+        let commands : length (commands_at clients (1 + m)) ≡ length (slice_index_or clients m []) = ap (λ (k : ℕ). length (slice_index_or clients k [])) place in
+        omega (arith, own, (left.does 0 (omega arith)).few, commands)
 
     -- so none found the history full, where it may have an entry for each command
     pub never_full : most ≡ sum_by length clients → (i : ℕ) → slice_get lefts i ≡ Some (Err Full) → ⊥
-    never_full all i at =
+    never_full enough i at =
         let left = each i (Err Full) at in
-        let cause = left.does.does in
+        let cause = (left.does 0 (omega arith)).does in
         let lt : i < length clients = omega (arith, count, is_there lefts i (Err Full) at) in
-        let number : left.pass.number ≡ 1 + i = left.who ∙ omega arith in
+        let number : left.pass.number ≡ 1 + i = left.who in
         let own : length (entries_of (1 + i) (log_of history.entries)) ≡ length left.pass.mine = ap (λ (n : ℕ). length (entries_of n (log_of history.entries))) (sym number) ∙ ap (λ (l : List LogEntry). length l) left.ends.mine in
-        let place : i + 1 - 1 ≡ i = omega arith in
-        let commands : length (commands_at clients (i + 1)) ≡ length (slice_index_or clients i []) = ap (λ (k : ℕ). length (slice_index_or clients k [])) place in
+        let place : 1 + i - 1 ≡ i = omega arith in
+        let commands : length (commands_at clients (1 + i)) ≡ length (slice_index_or clients i []) = ap (λ (k : ℕ). length (slice_index_or clients k [])) place in
         let fewer : length (entries_of (1 + i) (log_of history.entries)) < length (slice_index_or clients i []) = omega (arith, own, cause.0, commands) in
-        absurd (omega (arith, cause.1, all, prefix_length left.pass.seen (log_of history.entries) left.ends.seen, all_entries (length clients) (log_of history.entries) ended.theirs, tally_fewer 1 clients (log_of history.entries) i few lt fewer))
+        absurd (omega (arith, cause.1, enough, prefix_length left.pass.seen (log_of history.entries) left.ends.seen, all_entries (length clients) (log_of history.entries) ended.theirs, tally_fewer 1 clients (log_of history.entries) i few lt fewer))
 
     -- where all clients left their records, these are honest
     pub all_honest : (records : List (List Record)) → lefts ≡ all_told records → AreHonest answers terms opening clients (told_entries history) records
     all_honest records told =
         let size : length records ≡ length clients = omega (arith, count, ap (λ (l : List (Result (List Record) Stop)). length l) told, all_told-length records) in
-        are_honest records size (λ m recs at.
-        let left = each m (Ok recs) (ap (λ (l : List (Result (List Record) Stop)). slice_get l m) told ∙ told_at records m recs at) in
-        let number : m + 1 ≡ 1 + m = omega arith in
-        subst (λ (n : ℕ). IsOne n recs) number (left_one most (m + 1) recs left))
+        record {
+          legal = subst (λ (l : List Made). IsLegal (record { opening = opening; entries = l })) (sym (script_made ∙ made)) (subst IsLegal ended.plan ended.legal);
+          theirs = are_theirs records size (λ m recs at. left_one most (1 + m) recs (each m (Ok recs) (ap (λ (l : List (Result (List Record) Stop)). slice_get l m) told ∙ told_at records m recs at)));
+          told = honest_from most 1 0 0 clients records (omega arith) size (λ m lt. ap (λ (k : ℕ). slice_index_or clients k []) (let e : 1 + m - 1 ≡ m = omega arith in e))
+              (subst (HaveLeftWith (Leaves most) terms.order history 1 0) told all);
+        }

@@ -28,7 +28,7 @@ use Rattle.sve_report.specs.declared.record.Record.TheVariants.{Accepted, Refuse
 use Rattle.sve_runner.specs.declared.terms.Terms.{Terms}
 use Rattle.sve_runner.specs.Honest.{budget_under, mode_under}
 use Rattle.sve_runner.specs.Told.{outcome_record, HoldsAt, IsTold}
-use Rattle.sve_runner.proofs.Looks.{look_below, largest_prefix}
+use Rattle.sve_session.proofs.Meets.{look_below, largest_prefix}
 
 whole_log : {xs ys : List Entry} → ys ≡ xs → IsPrefix xs ys
 whole_log {xs} {ys} is = subst (IsPrefix xs) (sym is) (prefix_refl xs)

@@ -2,12 +2,12 @@
 use Rattle.std.proofs.Common.{◌≡◌, ℕ, zero, suc, ◌+◌, ◌<◌, ◌≤◌, List, [], ◌∷◌, ◌++◌, Some, length, take, map, slice_get, get_or, refl, ap, sym, ◌∙◌, subst, arith, length-append}
 use Rattle.std.specs.Prelude.{All, Result, Ok, Err, IsErrAnd}
 use Rattle.sve_runner.specs.declared.stop.Stop.{Stop}
-use Rattle.std.proofs.lemmas.List.{map-append, length-map, length-take-le, take_all}
+use Rattle.std.proofs.lemmas.List.{map-append, length-map, length-take-le}
 use Rattle.std.proofs.lemmas.List.Elements.{All-nil, All-cons, All-append, All-weaker}
 use mathlib.Core.List.{IsPrefix}
 use Rattle.sve_board.specs.declared.knowledge.Entry.{Entry}
 use Rattle.sve_board.specs.Log.{largest}
-use Rattle.sve_board.specs.Values.{PassValue, TableId, new_pass}
+use Rattle.sve_board.specs.Values.{PassValue, TableId}
 use Rattle.sve_board.proofs.Prefixes.{prefix_trans}
 use Rattle.sve_text.specs.Files.{FilesValue}
 use Rattle.sve_text.specs.Refusals.{refusal_of}
@@ -22,14 +22,9 @@ use Rattle.sve_command.specs.declared.commands.Query.{Query}
 use Rattle.sve_report.specs.declared.record.Record.{Record}
 use Rattle.sve_report.specs.declared.record.Record.TheVariants.{Accepted, Refused, Answered, Cancelled, Spent}
 use Rattle.sve_runner.specs.declared.terms.Terms.{Terms}
-use Rattle.sve_runner.specs.Honest.{budget_under, front_after, accepted_from}
-use Rattle.sve_runner.specs.Told.{entered, HoldsAt, IsHonestIn, WalksIn, IsTold, HasWalked}
-use Rattle.sve_runner.proofs.Looks.{largest_prefix}
-
--- the front behind some records
-abbrev pub front_at : ℕ → List Record → ℕ
-front_at front [] = front
-front_at front (rec ∷ recs) = front_at (front_after front rec) recs
+use Rattle.sve_runner.specs.Honest.{budget_under, front_after, front_at, accepted_from}
+use Rattle.sve_runner.specs.Told.{entered, HoldsAt, IsHonestIn, WalksIn, IsTold}
+use Rattle.sve_session.proofs.Meets.{largest_prefix}
 
 front_at-push : (front : ℕ) (recs : List Record) (rec : Record) → front_at front (recs ++ rec ∷ []) ≡ front_after (front_at front recs) rec
 front_at-push front [] rec = refl
@@ -135,35 +130,32 @@ module _ (answers : FilesValue → Query → ℕ → Answer → Type 0) (terms :
   walked_length log top i j front (c ∷ commands) [] w = absurd w
   walked_length log top i j front (c ∷ commands) (r ∷ recs) (first, rest) = ap suc (walked_length log top i (j + 1) (front_after front r) commands recs rest)
 
-  -- what client i was told of its first j commands
-  pub record IsSoFar (board : TableId) (i : ℕ) (commands : List Command) (j : ℕ) (pass : PassValue) (recs : List Record) : Type 0 where
+  -- what client i was told of its first j commands, from any front up to this one
+  pub record IsSoFar (board : TableId) (i top : ℕ) (commands : List Command) (j : ℕ) (pass : PassValue) (recs : List Record) : Type 0 where
     pub ready : IsReady board pass
     pub number : pass.number ≡ i
-    pub walks : WalksIn answers terms opening table pass.seen (largest pass.looks) i 1 0 (take j commands) recs
-    pub front : front_at 0 recs ≤ largest pass.looks
+    pub walks : (front : ℕ) → front ≤ top → WalksIn answers terms opening table pass.seen (largest pass.looks) i 1 front (take j commands) recs
+    pub reached : (front : ℕ) → front ≤ top → front_at front recs ≤ largest pass.looks
     pub own : map (λ e. e.command) pass.mine ≡ accepted_from 1 recs
     pub next : All (λ e. e.command < j + 1) pass.mine
 
-  module _ (board : TableId) (i : ℕ) (commands : List Command) where
-    pub told_none : (pass : PassValue) → pass ≡ new_pass board i → IsSoFar board i commands 0 pass []
-    told_none pass is = subst (λ (p : PassValue). IsSoFar board i commands 0 p []) (sym is) (record { ready = record { board = refl; even = refl }; number = refl; walks = tt; front = omega arith; own = refl; next = All-nil (λ e. e.command < 1) })
-
-    pub told_more : (j : ℕ) (before after : PassValue) (recs : List Record) (command : Command) (rec : Record) → IsSoFar board i commands j before recs → j < length commands → slice_get commands j ≡ Some command → IsLater before after
-        → IsReady board after → IsTold answers terms opening table i (j + 1) command before after rec → IsSoFar board i commands (j + 1) after (recs ++ rec ∷ [])
+  module _ (board : TableId) (i top : ℕ) (commands : List Command) where
+    pub told_more : (j : ℕ) (before after : PassValue) (recs : List Record) (command : Command) (rec : Record) → IsSoFar board i top commands j before recs → j < length commands → slice_get commands j ≡ Some command → IsLater before after
+        → IsReady board after → IsTold answers terms opening table i (j + 1) command before after rec → IsSoFar board i top commands (j + 1) after (recs ++ rec ∷ [])
     told_more j before after recs command rec so_far lt at later ready told =
         let done = take j commands in
         let size : length done ≡ j = length-take-le j commands (omega (arith, lt)) in
-        let walked = walks_later before.seen after.seen (largest before.looks) (largest after.looks) i 1 0 done recs later.seen (largest_prefix before.looks after.looks later.looks) so_far.walks in
         let number : j + 1 ≡ 1 + length done = omega (arith, size) in
-        let here = subst (λ (n : ℕ). IsHonestIn answers terms opening table after.seen (largest after.looks) i n (front_at 0 recs) command rec) number (told.honest (front_at 0 recs) so_far.front) in
-        let place : 1 + length recs ≡ j + 1 = omega (arith, size, walked_length before.seen (largest before.looks) i 1 0 done recs so_far.walks) in
+        let place : 1 + length recs ≡ j + 1 = omega (arith, size, walked_length before.seen (largest before.looks) i 1 0 done recs (so_far.walks 0 (omega arith))) in
         let P : Entry → Type 0 = λ e. e.command < (j + 1) + 1 in
         record {
           ready = ready;
           number = later.number ∙ so_far.number;
-          walks = subst (λ (cs : List Command). WalksIn answers terms opening table after.seen (largest after.looks) i 1 0 cs (recs ++ rec ∷ [])) (sym (take-push commands j command at))
-              (walks-push after.seen (largest after.looks) i 1 0 done recs command rec walked here);
-          front = subst (λ (n : ℕ). n ≤ largest after.looks) (sym (front_at-push 0 recs rec)) (told.front (front_at 0 recs) so_far.front);
+          walks = λ front le. subst (λ (cs : List Command). WalksIn answers terms opening table after.seen (largest after.looks) i 1 front cs (recs ++ rec ∷ [])) (sym (take-push commands j command at))
+              (walks-push after.seen (largest after.looks) i 1 front done recs command rec
+              (walks_later before.seen after.seen (largest before.looks) (largest after.looks) i 1 front done recs later.seen (largest_prefix before.looks after.looks later.looks) (so_far.walks front le))
+              (subst (λ (n : ℕ). IsHonestIn answers terms opening table after.seen (largest after.looks) i n (front_at front recs) command rec) number (told.honest (front_at front recs) (so_far.reached front le))));
+          reached = λ front le. subst (λ (n : ℕ). n ≤ largest after.looks) (sym (front_at-push front recs rec)) (told.front (front_at front recs) (so_far.reached front le));
           own = ap (map (λ (e : Entry). e.command)) told.mine ∙ map-append (λ (e : Entry). e.command) before.mine (entered i (j + 1) rec)
               ∙ (λ k. so_far.own k ++ commands_entered i (j + 1) rec k)
               ∙ ap (λ (n : ℕ). accepted_from 1 recs ++ accepted_from n (rec ∷ [])) (sym place) ∙ sym (accepted_from-push 1 recs rec);
@@ -171,20 +163,14 @@ module _ (answers : FilesValue → Query → ℕ → Answer → Type 0) (terms :
         }
 
     -- the client has no more entries than commands, so far
-    pub few_so_far : (j : ℕ) (pass : PassValue) (recs : List Record) → IsSoFar board i commands j pass recs → j ≤ length commands → length pass.mine ≤ j
+    pub few_so_far : (j : ℕ) (pass : PassValue) (recs : List Record) → IsSoFar board i top commands j pass recs → j ≤ length commands → length pass.mine ≤ j
     few_so_far j pass recs so_far le =
         let size : length (take j commands) ≡ j = length-take-le j commands le in
-        omega (arith, length-map pass.mine (λ (e : Entry). e.command), ap (λ (l : List ℕ). length l) so_far.own, accepted_length 1 recs, size, walked_length pass.seen (largest pass.looks) i 1 0 (take j commands) recs so_far.walks)
+        omega (arith, length-map pass.mine (λ (e : Entry). e.command), ap (λ (l : List ℕ). length l) so_far.own, accepted_length 1 recs, size, walked_length pass.seen (largest pass.looks) i 1 0 (take j commands) recs (so_far.walks 0 (omega arith)))
 
-    pub few_then : (j : ℕ) (before after : PassValue) (recs : List Record) (command : Command) (rec : Record) → IsSoFar board i commands j before recs → j < length commands → IsTold answers terms opening table i (j + 1) command before after rec → length after.mine ≤ length commands
+    pub few_then : (j : ℕ) (before after : PassValue) (recs : List Record) (command : Command) (rec : Record) → IsSoFar board i top commands j before recs → j < length commands → IsTold answers terms opening table i (j + 1) command before after rec → length after.mine ≤ length commands
     few_then j before after recs command rec so_far lt told =
         omega (arith, lt, few_so_far j before recs so_far (omega (arith, lt)), ap (λ (l : List Entry). length l) told.mine, length-append before.mine (entered i (j + 1) rec), entered_length i (j + 1) rec)
 
-    pub few_still : (j : ℕ) (before after : PassValue) (recs : List Record) → IsSoFar board i commands j before recs → j < length commands → after.mine ≡ before.mine → length after.mine < length commands
+    pub few_still : (j : ℕ) (before after : PassValue) (recs : List Record) → IsSoFar board i top commands j before recs → j < length commands → after.mine ≡ before.mine → length after.mine < length commands
     few_still j before after recs so_far lt same = omega (arith, lt, few_so_far j before recs so_far (omega (arith, lt)), ap (λ (l : List Entry). length l) same)
-
-    pub told_all : (j : ℕ) (pass : PassValue) (recs : List Record) → IsSoFar board i commands j pass recs → length commands ≤ j → HasWalked answers terms opening table i commands pass recs
-    told_all j pass recs so_far le = record {
-      walks = subst (λ (cs : List Command). WalksIn answers terms opening table pass.seen (largest pass.looks) i 1 0 cs recs) (take_all j commands le) so_far.walks;
-      own = so_far.own;
-    }

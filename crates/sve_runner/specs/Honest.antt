@@ -12,6 +12,7 @@ use Rattle.sve_store.specs.declared.answer.Answer.{Answer}
 use Rattle.sve_store.specs.declared.answer.Answer.TheVariants.{Done, Spent as Unanswered}
 use Rattle.sve_clients.specs.declared.runs.Order.{Order}
 use Rattle.sve_clients.specs.declared.runs.Order.TheVariants.{AtOnce, InTurn}
+use Rattle.sve_clients.specs.Runs.{next_front}
 use Rattle.sve_command.specs.declared.commands.Command.{Command}
 use Rattle.sve_command.specs.declared.commands.Command.TheVariants.{Commit, Ask}
 use Rattle.sve_command.specs.declared.commands.Query.{Query}
@@ -67,6 +68,11 @@ front_after front (Answered r lines) = max front r
 front_after front (Cancelled base newer) = max front newer
 front_after front (Spent r budget) = max front r
 
+-- the front behind some records
+abbrev pub front_at : ℕ → List Record → ℕ
+front_at front [] = front
+front_at front (rec ∷ recs) = front_at (front_after front rec) recs
+
 -- the numbers of the commands that were accepted, from number j on
 abbrev pub accepted_from : ℕ → List Record → List ℕ
 accepted_from j [] = []
@@ -115,15 +121,17 @@ module _ (answers : FilesValue → Query → ℕ → Answer → Type 0) (terms :
   Walks entries i j front [] (rec ∷ recs) = ⊥
   Walks entries i j front (command ∷ commands) [] = ⊥
 
-  -- each client's records are honest, from client i on, and its entries in the history are exactly its accepted commands
-  abbrev pub AreHonestFrom : List Entry → ℕ → List (List Command) → List (List Record) → Type 0
-  AreHonestFrom entries i [] [] = Unit {0}
-  AreHonestFrom entries i (commands ∷ others) (recs ∷ records) = Walks entries i 1 0 commands recs × (commands_of i (script_entries clients entries) ≡ accepted_from 1 recs) × AreHonestFrom entries (i + 1) others records
-  AreHonestFrom entries i [] (recs ∷ records) = ⊥
-  AreHonestFrom entries i (commands ∷ others) [] = ⊥
+  -- Each client's records are honest, from client i on, which begins at this front, and its entries in the history are exactly its accepted commands. Where
+  -- clients run one after another, each begins at the front that the one before it leaves; else each begins at 0.
+  abbrev pub AreHonestFrom : List Entry → ℕ → ℕ → List (List Command) → List (List Record) → Type 0
+  AreHonestFrom entries i front [] [] = Unit {0}
+  AreHonestFrom entries i front (commands ∷ others) (recs ∷ records) =
+      Walks entries i 1 front commands recs × (commands_of i (script_entries clients entries) ≡ accepted_from 1 recs) × AreHonestFrom entries (i + 1) (next_front terms.order (front_at front recs)) others records
+  AreHonestFrom entries i front [] (recs ∷ records) = ⊥
+  AreHonestFrom entries i front (commands ∷ others) [] = ⊥
 
   -- The records are honest for the history: it is legal and holds commits of the script alone, and each client's records tell of it.
   pub record AreHonest (entries : List Entry) (records : List (List Record)) : Type 0 where
     pub legal : IsLegal (record { opening = opening; entries = script_entries clients entries })
     pub theirs : AllByRecursion (IsOfScript clients) entries
-    pub told : AreHonestFrom entries 1 clients records
+    pub told : AreHonestFrom entries 1 0 clients records

@@ -26,7 +26,7 @@ use Rattle.sve_report.specs.declared.record.Record.TheVariants.{Accepted, Refuse
 use Rattle.sve_runner.specs.declared.stop.Stop.{Stop}
 use Rattle.sve_runner.specs.declared.stop.Stop.TheVariants.{Full, NoMemory}
 use Rattle.sve_runner.specs.declared.terms.Terms.{Terms}
-use Rattle.sve_runner.specs.Honest.{budget_under, mode_under, front_after, accepted_from}
+use Rattle.sve_runner.specs.Honest.{budget_under, mode_under, front_after, front_at, accepted_from}
 
 -- the answers that kinds with these values of inputs, these definitions of values and these answers over values have
 abbrev pub answers_by : {K V Q : Type 0} → (K → K → Ordering) → (FilesValue → K → Option (V × ℕ)) → (K → ℕ → (K → Option V) → Made K V) → ((K → ℕ → V) → Q → ℕ → Answer) → FilesValue → Q → ℕ → Answer → Type 0
@@ -92,12 +92,13 @@ module _ (answers : FilesValue → Query → ℕ → Answer → Type 0) (terms :
     pub front : (front : ℕ) → front ≤ largest before.looks → front_after front rec ≤ largest after.looks
     pub mine : after.mine ≡ before.mine ++ entered i j rec
 
-  -- what all commands of client i were told, beside its pass
-  pub record HasWalked (i : ℕ) (commands : List Command) (pass : PassValue) (recs : List Record) : Type 0 where
-    pub walks : WalksIn pass.seen (largest pass.looks) i 1 0 commands recs
+  -- what all commands of client i were told from this front on, beside its pass, whose looks reach the front behind them
+  pub record HasWalked (i front : ℕ) (commands : List Command) (pass : PassValue) (recs : List Record) : Type 0 where
+    pub walks : WalksIn pass.seen (largest pass.looks) i 1 front commands recs
+    pub reached : front_at front recs ≤ largest pass.looks
     pub own : map (λ e. e.command) pass.mine ≡ accepted_from 1 recs
 
-  -- what client i leaves, where a history may have so many entries: all that it was told, or why it left its commands
-  pub record HasLeft (most i : ℕ) (commands : List Command) (pass : PassValue) (left : Result (List Record) Stop) : Type 0 where
+  -- what client i leaves, from this front on, where a history may have so many entries: all that it was told, or why it left its commands
+  pub record HasLeft (most i front : ℕ) (commands : List Command) (pass : PassValue) (left : Result (List Record) Stop) : Type 0 where
     pub few : length pass.mine ≤ length commands
-    pub does : MatchResult left (HasWalked i commands pass) (HasCause most commands pass)
+    pub does : MatchResult left (HasWalked i front commands pass) (HasCause most commands pass)

@@ -1,6 +1,6 @@
 //! The commands of one client, one after another.
 ghost use Rattle.std.specs.Prelude.{◌≡◌, ℕ, ◌+◌, ◌<◌, ◌≤◌, ◌^◌, ◌++◌, ◌∷◌, [], All, Some, length, slice_get, IfOk, IsErrOf, OnErr, OnOk};
-ghost use Rattle.sve_board.specs.Values.{new_pass};
+ghost use Rattle.sve_board.specs.Log.{largest};
 ghost use Rattle.sve_command.specs.Sizes.{edit_count};
 ghost use Rattle.sve_command.specs.declared.commands.Command.TheVariants.{Commit as Commits, Ask};
 ghost use Rattle.sve_session.specs.Passes.{IsLater, IsReady, IsNext};
@@ -20,7 +20,8 @@ use sve_session::{Commit, Outcome, Plan, Session};
 use sve_store::{Fresh, Kinds, Start};
 use sve_text::{Edit, Mode};
 
-/// Runs the commands of the pass's client, which has run none yet.
+/// Runs the commands of the pass's client, which has no entry yet. It is told of no revision below one that the pass was
+/// told of before.
 ///
 /// # Errors
 /// For want of memory, and where the pass has seen as many entries as the history may have. The client then has fewer
@@ -39,12 +40,13 @@ where
     P: Plan,
     R: Wait,
     G: Gate,
-    requires pass { pass.old ≡ new_pass P.board.table pass.old.number }
+    requires pass { IsReady P.board.table pass.old }
+    requires none { pass.old.mine ≡ [] }
     requires few { (length commands.now < 2 ^ 32) × All (λ command. edit_count command < 2 ^ 32) commands.now }
     requires edits { (j : ℕ) → edits_in_command (slice_get commands.now j) ≡ P.table pass.old.number (j + 1) }
     ensures ready { IsReady P.board.table pass.new }
     ensures number { pass.new.number ≡ pass.old.number }
-    ensures told { IfOk result (HasWalked (answers_by K.Key.cmp K.given K.make K.answer_over) terms P.opening P.table pass.old.number commands.now pass.new) }
+    ensures told { IfOk result (λ recs. (front : ℕ) → front ≤ largest pass.old.looks → HasWalked (answers_by K.Key.cmp K.given K.make K.answer_over) terms P.opening P.table pass.old.number front commands.now pass.new recs) }
     ensures few { length pass.new.mine ≤ length commands.now }
     ensures full { IsErrOf result Stop.Full → (length pass.new.mine < length commands.now) × (length pass.new.seen ≡ P.most) }
 {
