@@ -1,0 +1,4 @@
+pub mod Things
+pub mod References
+pub mod Nets
+pub mod Around
