@@ -1,6 +1,6 @@
-pub mod Alone
 pub mod Answered
 pub mod Causes
 pub mod Endings
+pub mod OneReport
 pub mod Sessions
 pub mod SmallestRun

@@ -1,6 +1,6 @@
 -- What is known of a session that was read, and of the report of its run.
-use Rattle.std.proofs.Common.{◌≡◌, ℕ, ◌<◌, ◌≤◌, ◌^◌, List, [], ◌∷◌, Option, Some, None, if◌then◌else◌, sym, ap, ◌∙◌, subst, arith}
-use Rattle.std.specs.Prelude.{All, Bool, IsTrue, IfOk, Result, Ok, Err, sum_by, length}
+use Rattle.std.proofs.Common.{◌≡◌, ℕ, ◌<◌, ◌≤◌, ◌^◌, ◌⊎◌, inl, inr, List, [], ◌∷◌, Option, Some, None, if◌then◌else◌, sym, ap, ◌∙◌, subst, arith}
+use Rattle.std.specs.Prelude.{All, Bool, IfOk, Result, Ok, Err, sum_by, length}
 use Rattle.std.proofs.lemmas.List.Elements.{All-weaker}
 use Rattle.sve_text.specs.Files.{opening_files}
 use Rattle.sve_history.specs.Histories.{IsOpening}
@@ -20,15 +20,13 @@ use Rattle.sve_report.specs.declared.record.Record.{Record}
 use Rattle.sve_report.specs.Reports.{report}
 use Rattle.sve_runner.specs.Told.{AreFew}
 use Rattle.sve_words.specs.declared.request.Options.{Options}
-use Rattle.sve_serve.specs.Answers.{IsAnswerAt}
-use Rattle.sve_serve.specs.Honest.{run_order, terms_of, Honest}
+use Rattle.sve_serve.specs.Honest.{run_order, terms_of, Honest, AreInTurn}
 use Rattle.sve_serve.specs.declared.serving.Reply.{Reply}
 use Rattle.sve_serve.specs.declared.status.Status.{Status}
 use Rattle.sve_serve.specs.declared.status.Status.TheVariants.{Done}
 use Rattle.sve_serve.specs.Runs.{IsReportOf, IsOutputForSession}
 use Rattle.sve_serve.specs.Unbuilt.{first_later}
-use Rattle.sve_serve.proofs.Alone.{one_report}
-use Rattle.sve_serve.proofs.Answered.{never_behind}
+use Rattle.sve_serve.proofs.OneReport.{one_report}
 
 -- ---- its opening files
 
@@ -56,8 +54,9 @@ are_few clients limits = record {
 
 -- ---- its report
 
-in_turn : (options : Options) → IsTrue options.serial → run_order options ≡ InTurn
-in_turn options serial = ap (λ (b : Bool). if b then InTurn else AtOnce) serial
+in_turn : (options : Options) (clients : List (List Command)) → AreInTurn options clients → (run_order options ≡ InTurn) ⊎ (length clients ≡ 1)
+in_turn options clients (inl serial) = inl (ap (λ (b : Bool). if b then InTurn else AtOnce) serial)
+in_turn options clients (inr one) = inr one
 
 pub reported : (options : Options) (bytes text : List ℕ) (script : Script) (entries : List Entry) (records : List (List Record)) → IsSession bytes script → first_later script.clients ≡ None
     → Honest options script entries records → text ≡ report entries records → IsReportOf options bytes text
@@ -68,8 +67,7 @@ reported options bytes text script entries records session whole honest written 
   session = session;
   whole = whole;
   honest = honest;
-  in_turn = λ serial. never_behind IsAnswerAt (terms_of options) script.files script.clients entries (in_turn options serial) 1 script.clients records honest.told;
-  alone = λ commands one. let same = one_report (terms_of options) script.files script.clients entries commands records one honest in written ∙ (λ k. report (same.1 k) (same.0 k));
+  in_turn = λ turns. let same = one_report (terms_of options) script.files script.clients entries records (in_turn options script.clients turns) honest in written ∙ (λ k. report (same.1 k) (same.0 k));
   written = written;
 }
 

@@ -9,7 +9,7 @@ use Rattle.sve_command.specs.declared.commands.Command.TheVariants.{Commit, Ask}
 use Rattle.sve_command.specs.declared.commands.Query.TheVariants.{File}
 use Rattle.sve_store.specs.declared.answer.Answer.TheVariants.{Done}
 use Rattle.sve_serve.specs.Answers.{answer_at}
-use Rattle.sve_serve.specs.Serial.{report_alone}
+use Rattle.sve_serve.specs.Serial.{report_in_turn}
 
 text : List ℕ
 text = codes "module a;\nendmodule\n"
@@ -32,6 +32,6 @@ absent_answer = refl
 abbrev commands : List Command
 commands = Commit (Put (codes "a.sv") text ∷ []) ∷ Ask (File (codes "a.sv")) Latest None ∷ []
 
-smallest_report : report_alone 1000000 (opening_files []) commands ≡ codes "history 1\n1 1 1\nclient 1\n1 accepted 1\n2 answer 1 4\nstamp 1 bytes 20\n|module a;\n|endmodule\n|\n"
+smallest_report : report_in_turn 1000000 (opening_files []) (commands ∷ []) ≡ codes "history 1\n1 1 1\nclient 1\n1 accepted 1\n2 answer 1 4\nstamp 1 bytes 20\n|module a;\n|endmodule\n|\n"
 unfolding digits text
 smallest_report = refl

@@ -1,12 +1,11 @@
 -- When the records of a session's run tell the truth about a history (own).
-use Rattle.std.specs.Prelude.{ℕ, Bool, true, false, List, unwrap_or, if◌then◌else◌}
-use Rattle.std.specs.List.{AllByRecursion}
+use Rattle.std.specs.Prelude.{ℕ, ◌≡◌, ◌⊎◌, List, length, unwrap_or, if◌then◌else◌, IsTrue}
 use Rattle.sve_clients.specs.declared.runs.Order.{Order}
 use Rattle.sve_clients.specs.declared.runs.Order.TheVariants.{AtOnce, InTurn}
+use Rattle.sve_command.specs.declared.commands.Command.{Command}
 use Rattle.sve_script.specs.declared.sessions.Script.{Script}
 use Rattle.sve_report.specs.declared.entry.Entry.{Entry}
 use Rattle.sve_report.specs.declared.record.Record.{Record}
-use Rattle.sve_report.specs.declared.record.Record.TheVariants.{Accepted, Refused, Answered, Cancelled, Spent}
 use Rattle.sve_runner.specs.declared.terms.Terms.{Terms}
 use Rattle.sve_runner.specs.Honest.{AreHonest}
 use Rattle.sve_words.specs.declared.request.Options.{Options}
@@ -32,14 +31,6 @@ terms_of options = record { budget = run_budget options; order = run_order optio
 abbrev pub Honest : Options → Script → List Entry → List (List Record) → Type 0
 Honest options script entries records = AreHonest IsAnswerAt (terms_of options) script.files script.clients entries records
 
--- the record is not of an ask that was cancelled
-abbrev pub IsNotCancelled : Record → Type 0
-IsNotCancelled (Accepted r) = Unit {0}
-IsNotCancelled (Refused r edit why) = Unit {0}
-IsNotCancelled (Answered r lines) = Unit {0}
-IsNotCancelled (Cancelled base newer) = ⊥
-IsNotCancelled (Spent r limit) = Unit {0}
-
--- no ask was cancelled
-abbrev pub AreNotCancelled : List (List Record) → Type 0
-AreNotCancelled records = AllByRecursion (AllByRecursion IsNotCancelled) records
+-- the clients of a run run one after another: the words say so, or there is one client
+abbrev pub AreInTurn : Options → List (List Command) → Type 0
+AreInTurn options clients = IsTrue options.serial ⊎ (length clients ≡ 1)

@@ -1,6 +1,5 @@
 -- The output of a run, and the status with which it ends (own).
-use Rattle.std.specs.Prelude.{ℕ, ◌≡◌, ◌<◌, ◌≤◌, ◌⊎◌, ◌++◌, List, [], ◌∷◌, Option, Some, None, length, IfSome, IsTrue, codes, decimal}
-use Rattle.sve_command.specs.declared.commands.Command.{Command}
+use Rattle.std.specs.Prelude.{ℕ, ◌≡◌, ◌<◌, ◌≤◌, ◌⊎◌, ◌++◌, List, [], ◌∷◌, Option, Some, None, length, IfSome, codes, decimal}
 use Rattle.sve_script.specs.declared.sessions.Script.{Script}
 use Rattle.sve_script.specs.declared.sessions.Which.{Which}
 use Rattle.sve_script.specs.declared.sessions.Which.TheVariants.{Files, Bytes, Clients, Commands, Edits, Budget}
@@ -9,8 +8,8 @@ use Rattle.sve_report.specs.declared.entry.Entry.{Entry}
 use Rattle.sve_report.specs.declared.record.Record.{Record}
 use Rattle.sve_serve.specs.declared.status.Status.{Status}
 use Rattle.sve_serve.specs.declared.status.Status.TheVariants.{Done, Usage, BadSession, ReadFault, WriteFault, TooLarge, NoMemory}
-use Rattle.sve_serve.specs.Honest.{Honest, run_budget, AreNotCancelled}
-use Rattle.sve_serve.specs.Serial.{report_alone}
+use Rattle.sve_serve.specs.Honest.{Honest, run_budget, AreInTurn}
+use Rattle.sve_serve.specs.Serial.{report_in_turn}
 use Rattle.sve_report.specs.Lines.{ended}
 use Rattle.sve_report.specs.Reports.{report}
 use Rattle.sve_serve.specs.Unbuilt.{first_later}
@@ -53,8 +52,8 @@ too_large_line = ended (codes "bad session: more than 16777216 bytes")
 abbrev pub IsLater : List ℕ → List ℕ → Type 0
 IsLater bytes path = (script : Script) × IsSession bytes script × (first_later script.clients ≡ Some path)
 
--- The bytes are a session, all of which is answered, and the text reports a history of it with records that are honest in a run with these options. Where
--- the clients run one after another no ask is cancelled. One client has one report, whether or not it is to run so.
+-- The bytes are a session, all of which is answered, and the text reports a history of it with records that are honest in a run with these options. Clients
+-- that run one after another have one report.
 pub record IsReportOf (options : Options) (bytes text : List ℕ) : Type 0 where
   pub script : Script
   pub entries : List Entry
@@ -62,8 +61,7 @@ pub record IsReportOf (options : Options) (bytes text : List ℕ) : Type 0 where
   pub session : IsSession bytes script
   pub whole : first_later script.clients ≡ None
   pub honest : Honest options script entries records
-  pub in_turn : IsTrue options.serial → AreNotCancelled records
-  pub alone : (commands : List Command) → script.clients ≡ commands ∷ [] → text ≡ report_alone (run_budget options) script.files commands
+  pub in_turn : AreInTurn options script.clients → text ≡ report_in_turn (run_budget options) script.files script.clients
   pub written : text ≡ report entries records
 
 -- the line for bytes that are no session, or one that is not answered yet

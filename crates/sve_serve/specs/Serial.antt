@@ -1,4 +1,4 @@
--- The one report of a session of one client: each of its commands comes at the newest revision (own).
+-- The one report of a session whose clients run one after another: each command comes at the newest revision (own).
 use Rattle.std.specs.Prelude.{ℕ, ◌+◌, List, [], ◌∷◌, ◌++◌, length, Option, Some, None, unwrap_or}
 use Rattle.sve_text.specs.declared.edit.Edit.{Edit}
 use Rattle.sve_text.specs.declared.why.Refusal.{Refusal}
@@ -19,9 +19,9 @@ pub record Revisions : Type 0 where
   pub entries : List Entry
   pub newest : FilesValue
 
--- the entry of the client's command of this number
-abbrev pub entry_of : ℕ → Entry
-entry_of j = record { client = 1; command = j }
+-- the entry of command j of client i
+abbrev pub entry_of : ℕ → ℕ → Entry
+entry_of i j = record { client = i; command = j }
 
 -- what a commit leaves, as this entry, where it is not refused
 abbrev pub committed : Revisions → Entry → List Edit → Option Refusal → Revisions
@@ -38,30 +38,40 @@ abbrev pub ask_record : ℕ → ℕ → Answer → Record
 ask_record r budget (Done lines) = Answered r lines
 ask_record r budget Unanswered = Spent r budget
 
--- what command j leaves
-abbrev pub revisions_after_one : Revisions → ℕ → Command → Revisions
-revisions_after_one h j (Commit edits) = committed h (entry_of j) edits (refusal_of h.newest edits)
-revisions_after_one h j (Ask query mode budget) = h
+-- what command j of client i leaves
+abbrev pub revisions_after_one : Revisions → ℕ → ℕ → Command → Revisions
+revisions_after_one h i j (Commit edits) = committed h (entry_of i j) edits (refusal_of h.newest edits)
+revisions_after_one h i j (Ask query mode budget) = h
 
 -- what a command is told, where asks that give no budget have this one
 abbrev pub record_of : ℕ → Revisions → Command → Record
 record_of given h (Commit edits) = commit_record h (refusal_of h.newest edits)
 record_of given h (Ask query mode budget) = ask_record (length h.entries) (unwrap_or budget given) (answer_at h.newest query (unwrap_or budget given))
 
--- what the commands from number j on leave
-abbrev pub revisions_after : Revisions → ℕ → List Command → Revisions
-revisions_after h j [] = h
-revisions_after h j (command ∷ commands) = revisions_after (revisions_after_one h j command) (j + 1) commands
+-- what the commands of client i leave, from number j on
+abbrev pub revisions_after : Revisions → ℕ → ℕ → List Command → Revisions
+revisions_after h i j [] = h
+revisions_after h i j (command ∷ commands) = revisions_after (revisions_after_one h i j command) i (j + 1) commands
 
 -- what they are told
-abbrev pub records_of : ℕ → Revisions → ℕ → List Command → List Record
-records_of given h j [] = []
-records_of given h j (command ∷ commands) = record_of given h command ∷ records_of given (revisions_after_one h j command) (j + 1) commands
+abbrev pub records_of : ℕ → Revisions → ℕ → ℕ → List Command → List Record
+records_of given h i j [] = []
+records_of given h i j (command ∷ commands) = record_of given h command ∷ records_of given (revisions_after_one h i j command) i (j + 1) commands
+
+-- what all commands leave of the clients from number i on, each of which runs when the one before it has ended
+abbrev pub revisions_in_turn : Revisions → ℕ → List (List Command) → Revisions
+revisions_in_turn h i [] = h
+revisions_in_turn h i (commands ∷ clients) = revisions_in_turn (revisions_after h i 1 commands) (i + 1) clients
+
+-- what these clients are told
+abbrev pub records_in_turn : ℕ → Revisions → ℕ → List (List Command) → List (List Record)
+records_in_turn given h i [] = []
+records_in_turn given h i (commands ∷ clients) = records_of given h i 1 commands ∷ records_in_turn given (revisions_after h i 1 commands) (i + 1) clients
 
 -- the opening files, which no commit has touched
 abbrev pub opened : FilesValue → Revisions
 opened files = record { entries = []; newest = files }
 
--- the report of one client with these commands over these opening files
-abbrev pub report_alone : ℕ → FilesValue → List Command → List ℕ
-report_alone given files commands = report (revisions_after (opened files) 1 commands).entries (records_of given (opened files) 1 commands ∷ [])
+-- the report of clients with these commands, one after another, over these opening files
+abbrev pub report_in_turn : ℕ → FilesValue → List (List Command) → List ℕ
+report_in_turn given files clients = report (revisions_in_turn (opened files) 1 clients).entries (records_in_turn given (opened files) 1 clients)
