@@ -1,16 +1,15 @@
 -- What is known of a session that was read, and of the report of its run.
-use Rattle.std.proofs.Common.{◌≡◌, ℕ, ◌<◌, ◌≤◌, ◌^◌, ◌⊎◌, inl, inr, List, [], ◌∷◌, Option, Some, None, if◌then◌else◌, sym, ap, ◌∙◌, subst, arith}
-use Rattle.std.specs.Prelude.{All, Bool, IfOk, Result, Ok, Err, sum_by, length}
+use Rattle.std.proofs.Common.{◌≡◌, ℕ, ◌<◌, ◌≤◌, ◌^◌, ◌⊎◌, inl, inr, List, Option, Some, None, if◌then◌else◌, sym, ap, ◌∙◌, subst, arith}
+use Rattle.std.specs.Prelude.{All, Bool, IfOk, Result, Ok, Err, length}
 use Rattle.std.proofs.lemmas.List.Elements.{All-weaker}
 use Rattle.sve_text.specs.Files.{opening_files}
 use Rattle.sve_history.specs.Histories.{IsOpening}
 use Rattle.sve_history.proofs.Stamps.{opening_files_are_untouched}
-use Rattle.sve_clients.specs.declared.runs.Order.{Order}
 use Rattle.sve_clients.specs.declared.runs.Order.TheVariants.{AtOnce, InTurn}
 use Rattle.sve_command.specs.declared.commands.Command.{Command}
 use Rattle.sve_command.specs.Sizes.{edit_count}
 use Rattle.sve_script.specs.declared.sessions.Script.{Script}
-use Rattle.sve_script.specs.declared.sessions.TheConstants.{MAX_COMMANDS, MAX_EDITS}
+use Rattle.sve_script.specs.declared.sessions.TheConstants.{MAX_EDITS}
 use Rattle.sve_script.specs.declared.limits.Beyond.{Beyond}
 use Rattle.sve_script.specs.declared.parts.Parts.{Parts}
 use Rattle.sve_script.specs.Limits.{limit_of, AreInLimits}

@@ -1,5 +1,5 @@
 -- The output of a run, and the status with which it ends (own).
-use Rattle.std.specs.Prelude.{ℕ, ◌≡◌, ◌<◌, ◌≤◌, ◌⊎◌, ◌++◌, List, [], ◌∷◌, Option, Some, None, length, IfSome, codes, decimal}
+use Rattle.std.specs.Prelude.{ℕ, ◌≡◌, ◌<◌, ◌≤◌, ◌⊎◌, ◌++◌, List, Option, Some, None, length, IfSome, codes, decimal}
 use Rattle.sve_script.specs.declared.sessions.Script.{Script}
 use Rattle.sve_script.specs.declared.sessions.Which.{Which}
 use Rattle.sve_script.specs.declared.sessions.Which.TheVariants.{Files, Bytes, Clients, Commands, Edits, Budget}

@@ -10,7 +10,6 @@ use Rattle.sve_runner.specs.declared.terms.Terms.{Terms}
 use Rattle.sve_runner.specs.Honest.{told_entries, files_of, AreHonest}
 use Rattle.sve_runner.specs.Told.{AreFew}
 use Rattle.sve_serve.specs.Answers.{IsAnswerAt}
-use Rattle.sve_serve.specs.Honest.{terms_of}
 use Rattle.sve_serve.proofs.Answered.{are_honest_for}
 use Rattle.sve_serve.proofs.Sessions.{are_few}
 use Rattle.sve_serve.proofs.running.run.Goals as goal

@@ -1,4 +1,4 @@
-use Rattle.std.proofs.Common.{Err, map, string_bytes, refl, ap, sym, ◌∙◌, subst, ℕ, List}
+use Rattle.std.proofs.Common.{Err, map, string_bytes, refl, ap, sym, ◌∙◌, subst}
 use Rattle.sve_serve.specs.declared.status.Status.TheVariants.{Usage, TooLarge}
 use Rattle.sve_serve.specs.Endings.{Seen, IsReadWhole}
 use Rattle.sve_serve.specs.Runs.{IsOutputForSession}
