@@ -1,0 +1,235 @@
+//! Parameters in a scope.
+ghost use Rattle.std.specs.Prelude.{◌≡◌, IfOk};
+ghost use Rattle.sve_scoped.specs.Known.{told_in};
+ghost use Rattle.sve_declare.specs.Parameters.{form_type, found_in, is_out, kept, names_declared, note_in, parameter_after, parameters_behind, separator, with_parameters, with_value};
+
+use std::alloc::Global;
+use sve_assigned::{Assigned, Form, Formed};
+use sve_bytes::{List, NoMemory};
+use sve_contents::Contents;
+use sve_diag::Note;
+use sve_enumerated::{Passed, with_names};
+use sve_scope::{Constant, SharedType, What};
+use sve_scoped::{
+    Text, assigned_in, declared_at, dimension_notes, formed_in, out_if, with_note, with_notes,
+};
+use sve_tree::{DeclaredType, ParameterAssignment, Parameters, Word};
+
+/// What is found of a parameter before it is declared.
+#[derive(Drop)]
+pub(crate) struct Found {
+    /// Whether its type is out for a parameter, which has no value then.
+    pub(crate) is_out: bool,
+    /// What there is to say of its dimensions.
+    pub(crate) notes: List<Note>,
+    /// Its type and its value, or what there is to say of it.
+    pub(crate) value: Result<Assigned, Option<Note>>,
+}
+
+/// The type of parameters that the declaration itself tells.
+fn form_type(alloc: Global, form: &Form) -> Result<Option<SharedType>, NoMemory>
+    ensures { IfOk result (λ t. t ≡ form_type form.now) }
+{
+    match form {
+        Form::Free => Ok(None),
+        Form::Sign(_) => Ok(None),
+        Form::Typed(ty) => Ok(Some(SharedType::of(alloc, ty.copy(alloc)?)?)),
+    }
+}
+
+/// What a parameter stands for.
+#[derive(Drop)]
+pub(crate) struct Meant {
+    /// What it stands for.
+    pub(crate) constant: Constant,
+    /// What there is to say of its value.
+    pub(crate) note: Option<Note>,
+}
+
+/// What a parameter stands for: its type and its value, or the type that its declaration tells.
+fn kept(
+    alloc: Global,
+    form: &Form,
+    is_out: bool,
+    value: Result<Assigned, Option<Note>>,
+) -> Result<Meant, NoMemory>
+    ensures { IfOk result (λ k. k ≡ record { constant = kept form.now is_out value; note = note_in value }) }
+{
+    match value {
+        Err(note) => Ok(Meant {
+            constant: Constant {
+                ty: form_type(alloc, form)?,
+                value: None,
+            },
+            note,
+        }),
+        Ok(Assigned { ty, value }) => {
+            if is_out {
+                return Ok(Meant {
+                    constant: Constant {
+                        ty: form_type(alloc, form)?,
+                        value: None,
+                    },
+                    note: None,
+                });
+            }
+            Ok(Meant {
+                constant: Constant {
+                    ty: Some(SharedType::of(alloc, ty)?),
+                    value: Some(value),
+                },
+                note: None,
+            })
+        }
+    }
+}
+
+/// Whether the type of a parameter is out: it has unpacked dimensions, of its own or of its type.
+fn is_out(is_array: bool, assignment: &ParameterAssignment) -> bool
+    ensures { result ≡ is_out is_array assignment.now }
+{
+    is_array || !assignment.declarator.dimensions.is_empty()
+}
+
+/// A parameter with what is found of it, which is seen from a token on.
+#[tactic(auto, unfolding(crate::specs::Parameters::with_value))]
+fn with_value(
+    alloc: Global,
+    words: &[Word],
+    form: &Form,
+    passed: Passed,
+    found: Found,
+    token: u32,
+    from: u32,
+) -> Result<Passed, NoMemory>
+    ensures { IfOk result (λ p. p ≡ with_value words.now form.now passed found token from) }
+{
+    let Passed { contents, at } = passed;
+    let Found {
+        is_out,
+        notes,
+        value,
+    } = found;
+    let contents = out_if(words, contents, token, is_out)?;
+    let contents = with_notes(contents, notes)?;
+    let Meant { constant, note } = kept(alloc, form, is_out, value)?;
+    let contents = with_note(contents, note)?;
+    let Passed { contents, at } = Passed { contents, at }.to(words, token)?.to(words, from)?;
+    let contents = declared_at(words, contents, token, What::LocalParameter(constant), from)?;
+    Ok(Passed { contents, at })
+}
+
+/// The token behind the parameter at a place of a declaration.
+fn separator(written: &Parameters, place: usize) -> u32
+    ensures { result ≡ separator written.now place }
+{
+    match written.assignments.separators.get(place) {
+        Some(token) => *token,
+        None => written.semicolon,
+    }
+}
+
+/// What is found of a parameter where it stands.
+fn found_in(
+    alloc: Global,
+    text: Text<'_>,
+    contents: &Contents,
+    form: &Form,
+    is_array: bool,
+    assignment: &ParameterAssignment,
+) -> Result<Found, NoMemory>
+    ensures { IfOk result (λ f. f ≡ found_in (told_in text.entry.packages.now text.entry.words.now contents.now) form.now is_array assignment.now) }
+{
+    let dimensions = &assignment.declarator.dimensions;
+    let notes = dimension_notes(alloc, text, contents, dimensions)?;
+    let value = assigned_in(alloc, text, contents, form, &assignment.value.value)?;
+    Ok(Found {
+        is_out: is_out(is_array, assignment),
+        notes,
+        value,
+    })
+}
+
+/// The parameter at a place of a declaration.
+#[tactic(auto, unfolding(crate::specs::Parameters::parameter_after))]
+fn parameter_after(
+    alloc: Global,
+    text: Text<'_>,
+    form: &Form,
+    is_array: bool,
+    written: &Parameters,
+    place: usize,
+    passed: Passed,
+    assignment: &ParameterAssignment,
+) -> Result<Passed, NoMemory>
+    ensures { IfOk result (λ p. p ≡ parameter_after (told_in text.entry.packages.now text.entry.words.now) text.entry.words.now form.now is_array written.now place passed assignment.now) }
+{
+    let found = found_in(alloc, text, &passed.contents, form, is_array, assignment)?;
+    let token = assignment.declarator.name;
+    let from = separator(written, place);
+    with_value(alloc, text.words, form, passed, found, token, from)
+}
+
+/// The parameters of a declaration, one after another.
+#[tactic(auto, using(crate::proofs::Loops::parameters_step, crate::proofs::Loops::parameters_end))]
+fn all_parameters(
+    alloc: Global,
+    text: Text<'_>,
+    form: &Form,
+    is_array: bool,
+    written: &Parameters,
+    passed: Passed,
+) -> Result<Passed, NoMemory>
+    ensures { IfOk result (λ p. p ≡ parameters_behind (told_in text.entry.packages.now text.entry.words.now) text.entry.words.now form.now is_array written.now 0 passed written.now.assignments.items.items) }
+{
+    let mut passed = passed;
+    'assignments: for (place, assignment) in written.assignments.items.iter().enumerate() {
+        passed = parameter_after(
+            alloc, text, form, is_array, written, place, passed, assignment,
+        )?;
+    }
+    Ok(passed)
+}
+
+/// The names that the type of a declaration declares.
+#[tactic(auto, unfolding(crate::specs::Parameters::names_declared))]
+fn names_declared(
+    alloc: Global,
+    words: &[Word],
+    form: &Form,
+    passed: Passed,
+    written: &DeclaredType,
+) -> Result<Passed, NoMemory>
+    ensures { IfOk result (λ p. p ≡ names_declared words.now form.now passed written.now) }
+{
+    let DeclaredType::Explicit { data_type } = written else {
+        return Ok(passed);
+    };
+    match form {
+        Form::Free => Ok(passed),
+        Form::Sign(_) => Ok(passed),
+        Form::Typed(ty) => with_names(alloc, words, data_type, ty, passed),
+    }
+}
+
+/// What a declaration of parameters leaves (IEEE 1800-2017, 6.20): in a package and in a compilation unit none can be overridden.
+pub(crate) fn with_parameters(
+    alloc: Global,
+    text: Text<'_>,
+    contents: Contents,
+    written: &Parameters,
+) -> Result<Contents, NoMemory>
+    ensures { IfOk result (λ c. c ≡ with_parameters (told_in text.entry.packages.now text.entry.words.now) text.entry.words.now contents written.now) }
+{
+    let Formed {
+        form,
+        is_array,
+        notes,
+    } = formed_in(alloc, text, &contents, &written.data_type)?;
+    let contents = with_notes(contents, notes)?;
+    let at = written.keyword.token;
+    let passed = Passed { contents, at };
+    let passed = names_declared(alloc, text.words, &form, passed, &written.data_type)?;
+    let Passed { contents, at: _ } = all_parameters(alloc, text, &form, is_array, written, passed)?;
+    Ok(contents)
+}
