@@ -48,7 +48,7 @@ use Rattle.sve_heading.specs.Items.{headings}
 use Rattle.sve_contents.specs.declared.contents.Contents.{Contents}
 use Rattle.sve_contents.specs.Reading.{empty_contents, said, spot_in, with_scope}
 use Rattle.sve_contents.specs.Imports.{importing_all_in, with_all, with_found, with_import_entry, with_item as import_item, with_items as import_items, with_name, with_package}
-use Rattle.sve_here.specs.Told.{names_type}
+use Rattle.sve_here.specs.Told.{declares_before, names_type}
 use Rattle.sve_assigned.specs.declared.form.Form.{Form}
 use Rattle.sve_assigned.specs.declared.form.Form.TheVariants as is_form
 use Rattle.sve_assigned.specs.Assignments.{is_text}
@@ -180,6 +180,7 @@ module _ (ws : List Word) (ps qs : List Known) (alike : TellAlike ws ps qs) wher
     file = c.scope.file;
     chunk = c.scope.chunk;
     text = text_at ws;
+    declared_before = λ token. declares_before (spot c.scope.file c.scope.chunk token) (name_at ws token) (c.scope ∷ []);
     constant = λ n. after (name_alike c.scope h n i) (value_of (first_token n) n.name (name_at ws n.name));
     is_type = λ n. names_type (name_alike c.scope h n i);
     ty = λ n. after (name_alike c.scope h n i) (type_of (first_token n));

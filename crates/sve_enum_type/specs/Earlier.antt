@@ -1,6 +1,7 @@
 -- What is known where the value of a name of an enumeration stands (IEEE 1800-2017, 6.19): what is known around the enumeration, and the
--- names before it. A name before it that has no value is not said again. The arguments of a call see what is around the enumeration (own).
-use Rattle.std.specs.Prelude.{ℕ, List, Option, Some, None, Result, Ok, Err}
+-- names before it that the scope around has not declared before them: of two declarations of a name the first stays (own). A name before it
+-- that has no value is not said again. The arguments of a call see what is around the enumeration (own).
+use Rattle.std.specs.Prelude.{ℕ, Bool, if◌then◌else◌, List, Option, Some, None, Result, Ok, Err}
 use Rattle.sve_tree.specs.declared.word.ScopedName.{ScopedName}
 use Rattle.sve_tree.specs.declared.word.PackageScope.{PackageScope}
 use Rattle.sve_table.specs.Tables.{item_of, with_item}
@@ -29,6 +30,10 @@ abbrev pub with_earlier : List Earlier → Option (List ℕ) → Option Vector �
 with_earlier es None value = es
 with_earlier es (Some name) value = with_item earlier_name es (record { name = name; value = value })
 
+-- one that is declared before is none of them
+abbrev pub with_new : Bool → List Earlier → Option (List ℕ) → Option Vector → List Earlier
+with_new is_declared es name value = if is_declared then es else with_earlier es name value
+
 -- ---- what they stand for; in a select a name is of the base
 
 abbrev pub earlier_by : Option PackageScope → Option (List ℕ) → List Earlier → Option Earlier
@@ -56,6 +61,7 @@ told_among m base es = record {
   file = m.file;
   chunk = m.chunk;
   text = m.text;
+  declared_before = m.declared_before;
   constant = λ n. value_or n.name (earlier_of m es n) (m.constant n);
   is_type = m.is_type;
   ty = λ n. type_or base (earlier_of m es n) (m.ty n);

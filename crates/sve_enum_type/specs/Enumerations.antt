@@ -23,7 +23,7 @@ use Rattle.sve_type_rule.specs.Names.{Named, named, no_names, automatic_after, e
 use Rattle.sve_env.specs.Told.{Told}
 use Rattle.sve_form.specs.Tokens.{token_of}
 use Rattle.sve_measure.specs.Constants.{measured}
-use Rattle.sve_enum_type.specs.Earlier.{told_among, last_value, with_earlier}
+use Rattle.sve_enum_type.specs.Earlier.{told_among, last_value, with_new}
 use Rattle.sve_enum_type.specs.declared.earlier.Earlier.{Earlier}
 use Rattle.sve_enum_type.specs.declared.enumeration.Listed.{Listed}
 use Rattle.sve_simple_type.specs.Simple.{ranges_behind, atom_typed, vector_typed, named_typed}
@@ -74,11 +74,11 @@ abbrev pub name_value : Told → DataType → ℕ → Option Initializer → Lis
 name_value m base token None before = automatic_after (target_of base) token (m.text token) before.named
 name_value m base token (Some i) before = explicit_after (target_of base) token (m.text token) (token_of i.value.value) (measured (told_among m base before.earlier) i.value.value) before.named
 
-abbrev pub listed : List ℕ → List Earlier → Named → Listing
-listed name earlier n = record { named = n; earlier = with_earlier earlier (argument_of name) (last_value n.last) }
+abbrev pub listed : Bool → List ℕ → List Earlier → Named → Listing
+listed is_declared name earlier n = record { named = n; earlier = with_new is_declared earlier (argument_of name) (last_value n.last) }
 
 unfoldable pub name_after : Told → DataType → Listing → EnumName → Listing
-name_after m base before n = listed (m.text n.name) before.earlier (name_value m base n.name n.value before)
+name_after m base before n = listed (m.declared_before n.name) (m.text n.name) before.earlier (name_value m base n.name n.value before)
 
 unfoldable pub names_behind : Told → DataType → Listing → List EnumName → Listing
 names_behind m base before [] = before

@@ -1,6 +1,6 @@
 ghost use Rattle.std.specs.Prelude.{◌≡◌, IfOk, option_map};
 ghost use Rattle.sve_fault.specs.Faults.{argument_of};
-ghost use Rattle.sve_enum_type.specs.Earlier.{last_value, with_earlier, earlier_of};
+ghost use Rattle.sve_enum_type.specs.Earlier.{last_value, with_new, earlier_of};
 
 use std::alloc::Global;
 use sve_bytes::{Name, NoMemory};
@@ -40,15 +40,19 @@ fn last_value(last: &Last) -> Option<Bits>
     }
 }
 
-/// The names so far, and behind them one more, unless there is one of its name.
-pub(crate) fn with_earlier(
+/// The names so far, and behind them one more, unless there is one of its name, or the scope around has declared it before.
+pub(crate) fn with_new(
     alloc: Global,
     earlier: Table<Earlier>,
+    is_declared: bool,
     name: &[u8],
     last: &Last,
 ) -> Result<Table<Earlier>, NoMemory>
-    ensures { IfOk result (λ t. t ≡ with_earlier earlier (argument_of name.now) (last_value last.now)) }
+    ensures { IfOk result (λ t. t ≡ with_new is_declared earlier (argument_of name.now) (last_value last.now)) }
 {
+    if is_declared {
+        return Ok(earlier);
+    }
     let Some(name) = argument(alloc, name)? else {
         return Ok(earlier);
     };
@@ -60,7 +64,8 @@ pub(crate) fn with_earlier(
     Ok(earlier)
 }
 
-/// What is known where the value of a name of an enumeration stands: what is known around the enumeration, and the names before it.
+/// What is known where the value of a name of an enumeration stands: what is known around the enumeration, and the names before it that
+/// are declared by it.
 #[derive(Drop)]
 pub(crate) struct Among<'a, E> {
     /// The allocator.
@@ -104,6 +109,10 @@ impl<E: Env> Env for Among<'_, E> {
 
     fn text(&self, token: u32) -> &[u8] {
         self.env.text(token)
+    }
+
+    fn declared_before(&self, token: u32) -> Result<bool, NoMemory> {
+        self.env.declared_before(token)
     }
 
     fn constant(&self, name: ScopedName) -> Result<Result<Value, Fault>, NoMemory> {

@@ -7,7 +7,7 @@ ghost use Rattle.sve_type_rule.specs.Names.{named};
 ghost use Rattle.sve_enum_type.specs.Enumerations.{can_be_base, enumerated, base_over, base_of, target_of, listing, name_value, name_after, names_behind, no_name, names_over, enumeration_typed};
 ghost use Rattle.sve_enum_type.specs.Nodes.{base_nodes, value_nodes, name_count, enumeration_nodes};
 
-use crate::earlier::{Among, Earlier, with_earlier};
+use crate::earlier::{Among, Earlier, with_new};
 use std::alloc::Global;
 use std::sync::Arc;
 use sve_bytes::{List, Name, NoMemory};
@@ -149,7 +149,14 @@ fn name_after<E: Env>(
 {
     let Listed { names, earlier } = before;
     let names = name_value(alloc, base, target, names, &earlier, name, env, fuel)?;
-    let earlier = with_earlier(alloc, earlier, env.text(name.name), &names.last)?;
+    let is_declared = env.declared_before(name.name)?;
+    let earlier = with_new(
+        alloc,
+        earlier,
+        is_declared,
+        env.text(name.name),
+        &names.last,
+    )?;
     Ok(Listed { names, earlier })
 }
 

@@ -12,6 +12,8 @@ pub record Told : Type 0 where
   pub chunk : ℕ
   -- the bytes of each token
   pub text : ℕ → List ℕ
+  -- which tokens have a name that the scope around declares before them
+  pub declared_before : ℕ → Bool
   -- the value of each constant, or what is wrong with its name
   pub constant : ScopedName → Result Value Fault
   -- which names are those of types, and the type of each name that has one

@@ -27,6 +27,11 @@ pub trait Env {
     fn text(&self, token: u32) -> &[u8]
         ensures { result.now ≡ (told self.now).text token };
 
+    /// Whether the scope in whose text the expression stands declares the name at a token before that token. Of two declarations of
+    /// a name the first stays, so a declaration at the token is none.
+    fn declared_before(&self, token: u32) -> Result<bool, NoMemory>
+        ensures { IfOk result (λ r. r ≡ (told self.now).declared_before token) };
+
     /// The value of a constant (IEEE 1800-2017, 6.20), or what is wrong with its name.
     fn constant(&self, name: ScopedName) -> Result<Result<Value, Fault>, NoMemory>
         ensures { IfOk result (λ r. r ≡ (told self.now).constant name) };

@@ -38,6 +38,7 @@ with_genvar genvar value m = record {
   file = m.file;
   chunk = m.chunk;
   text = m.text;
+  declared_before = m.declared_before;
   constant = λ name. if is_genvar genvar m name then Ok (Bits (genvar_value value)) else m.constant name;
   is_type = λ name. if is_genvar genvar m name then false else m.is_type name;
   ty = λ name. if is_genvar genvar m name then Ok integer_type else m.ty name;

@@ -78,6 +78,10 @@ impl<'a, E: Env> Env for InLoop<'a, E> {
         self.env.text(token)
     }
 
+    fn declared_before(&self, token: u32) -> Result<bool, NoMemory> {
+        self.env.declared_before(token)
+    }
+
     fn constant(&self, name: ScopedName) -> Result<Result<Value, Fault>, NoMemory> {
         if self.is_genvar(name) {
             return Ok(Ok(Value::Bits(genvar_value(self.value))));

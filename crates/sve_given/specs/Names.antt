@@ -1,5 +1,5 @@
 -- What the names of a row stand for.
-use Rattle.std.specs.Prelude.{ℕ, Bool, false, if◌then◌else◌, bytes_eq, List, [], ◌∷◌, Option, Some, None, Result, Ok, Err, slice_get}
+use Rattle.std.specs.Prelude.{ℕ, Bool, true, false, if◌then◌else◌, bytes_eq, List, [], ◌∷◌, Option, Some, None, Result, Ok, Err, slice_get}
 use Rattle.sve_diag.specs.declared.code.Code.TheVariants.{C01, N01, N11}
 use Rattle.sve_tree.specs.TokenWords.{bytes_in}
 use Rattle.sve_tree.specs.declared.token_word.Word.{Word}
@@ -34,6 +34,10 @@ abbrev pub type_in : ℕ → List ℕ → Option Entry → Result DataType Fault
 type_in token text None = Err (fault_about token N01 text)
 type_in token text (Some e) = Ok e.ty
 
+abbrev pub is_given : Option Entry → Bool
+is_given None = false
+is_given (Some e) = true
+
 abbrev pub is_type_in : Option Entry → Bool
 is_type_in None = false
 is_type_in (Some e) = e.is_type
@@ -44,6 +48,7 @@ told_of file words names = record {
   file = file;
   chunk = 0;
   text = text_at words;
+  declared_before = λ token. is_given (entry_of names (text_at words token));
   constant = λ n. constant_in n.name (text_at words n.name) (entry_of names (text_at words n.name));
   is_type = λ n. is_type_in (entry_of names (text_at words n.name));
   ty = λ n. type_in n.name (text_at words n.name) (entry_of names (text_at words n.name));

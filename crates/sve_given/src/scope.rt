@@ -64,6 +64,10 @@ impl Env for Scope<'_> {
         text_at(self.words, token)
     }
 
+    fn declared_before(&self, token: u32) -> Result<bool, NoMemory> {
+        Ok(entry_of(self.names, text_at(self.words, token)).is_some())
+    }
+
     fn constant(&self, name: ScopedName) -> Result<Result<Value, Fault>, NoMemory> {
         let text = text_at(self.words, name.name);
         match entry_of(self.names, text) {

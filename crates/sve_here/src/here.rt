@@ -48,6 +48,19 @@ impl Env for Here<'_> {
         text_at(self.words, token)
     }
 
+    fn declared_before(&self, token: u32) -> Result<bool, NoMemory> {
+        let Some(name) = name_at(self.words, token) else {
+            return Ok(false);
+        };
+        let Some(scope) = self.chain.first() else {
+            return Ok(false);
+        };
+        match scope.declared.get(name) {
+            Some(declared) => Ok(declared.at.is_before(self.file, self.chunk, token)),
+            None => Ok(false),
+        }
+    }
+
     fn constant(&self, name: ScopedName) -> Result<Result<Value, Fault>, NoMemory> {
         match named(self.packages, self.words, self.chain, name) {
             Ok(what) => {

@@ -1,5 +1,5 @@
 -- What is known behind the parameters so far: what is known around the header, and these parameters (IEEE 1800-2017, 6.20.1). What has no value, or no type, is said elsewhere. The arguments of a call see what is around the header (own).
-use Rattle.std.specs.Prelude.{ℕ, List, Option, Some, None, Result, Ok, Err}
+use Rattle.std.specs.Prelude.{ℕ, Bool, true, if◌then◌else◌, is_some, List, Option, Some, None, Result, Ok, Err}
 use Rattle.sve_tree.specs.declared.word.ScopedName.{ScopedName}
 use Rattle.sve_tree.specs.declared.word.PackageScope.{PackageScope}
 use Rattle.sve_types.specs.DataType.{DataType}
@@ -18,6 +18,10 @@ seen_by (Some scope) name k = None
 
 abbrev pub seen_of : Told → Known → ScopedName → Option Resolved
 seen_of m k n = seen_by n.scope (argument_of (m.text n.name)) k
+
+-- the header, or what stands around it, declares the name of a token before it
+abbrev pub declares_among : Option Resolved → Bool → Bool
+declares_among r other = if is_some r then true else other
 
 abbrev pub value_or_silent : ℕ → Option Value → Result Value Fault
 value_or_silent token (Some v) = Ok v
@@ -46,6 +50,7 @@ told_within m k = record {
   file = m.file;
   chunk = m.chunk;
   text = m.text;
+  declared_before = λ token. declares_among (seen_by None (argument_of (m.text token)) k) (m.declared_before token);
   constant = λ n. value_among n.name (seen_of m k n) (m.constant n);
   is_type = m.is_type;
   ty = λ n. type_among n.name (seen_of m k n) (m.ty n);

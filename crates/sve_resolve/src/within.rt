@@ -1,7 +1,8 @@
 //! What is known behind the parameters so far.
 ghost use Rattle.std.specs.Prelude.{◌≡◌, IfOk, option_map};
 ghost use Rattle.std.specs.Result.{result_map_both};
-ghost use Rattle.sve_resolve.specs.Within.{seen_of, type_by, value_by};
+ghost use Rattle.sve_fault.specs.Faults.{argument_of};
+ghost use Rattle.sve_resolve.specs.Within.{seen_by, seen_of, type_by, value_by};
 
 use crate::known::{Known, Resolved, resolved_of};
 use std::alloc::Global;
@@ -19,6 +20,16 @@ pub(crate) struct Within<'a, E> {
     pub(crate) known: &'a Known,
 }
 
+/// The parameter of the name at a token.
+fn seen_at<'a, E: Env>(within: &Within<'a, E>, token: u32) -> Result<Option<&'a Resolved>, NoMemory>
+    ensures { IfOk result (λ r. option_map (λ x. x.now) r ≡ seen_by None (argument_of ((E.told within.now.env.now).text token)) within.now.known.now) }
+{
+    match argument(within.alloc, within.env.text(token))? {
+        None => Ok(None),
+        Some(name) => Ok(resolved_of(within.known, &name)),
+    }
+}
+
 /// The parameter that a name stands for.
 fn seen_of<'a, E: Env>(
     within: &Within<'a, E>,
@@ -29,10 +40,7 @@ fn seen_of<'a, E: Env>(
     if name.scope.is_some() {
         return Ok(None);
     }
-    match argument(within.alloc, within.env.text(name.name))? {
-        None => Ok(None),
-        Some(name) => Ok(resolved_of(within.known, &name)),
-    }
+    seen_at(within, name.name)
 }
 
 /// The value of a parameter. What has none is said elsewhere.
@@ -80,6 +88,13 @@ impl<E: Env> Env for Within<'_, E> {
 
     fn text(&self, token: u32) -> &[u8] {
         self.env.text(token)
+    }
+
+    fn declared_before(&self, token: u32) -> Result<bool, NoMemory> {
+        match seen_at(self, token)? {
+            None => self.env.declared_before(token),
+            Some(_) => Ok(true),
+        }
     }
 
     fn constant(&self, name: ScopedName) -> Result<Result<Value, Fault>, NoMemory> {
