@@ -20,7 +20,8 @@ use sve_tree::{Header, Port as WrittenPort, Ports};
 pub struct Listing {
     /// The ports, in the order of the text.
     pub ports: List<Port>,
-    /// What there is to say, in the order of the text.
+    /// What there is to say, port after port: of each what its type and its dimensions say, in the order of the text, and behind it
+    /// that no port may be of that type.
     pub notes: List<Note>,
 }
 
