@@ -121,9 +121,7 @@ pub(crate) fn joined(notes: List<Note>, more: List<Note>) -> Result<List<Note>, 
     ensures { IfOk result (λ l. l ≡ notes ++ more) }
 {
     let mut notes = notes.into_vec();
-    'more: for note in more.into_vec() {
-        notes.push(note)?;
-    }
+    notes.append(&mut more.into_vec())?;
     Ok(List::of(notes))
 }
 

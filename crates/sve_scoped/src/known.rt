@@ -8,13 +8,13 @@ ghost use Rattle.sve_assigned.specs.Forms.{IsFormed, formed};
 ghost use Rattle.sve_here.specs.Told.{known_here};
 ghost use Rattle.sve_scoped.specs.Known.{told_in};
 
-use std::alloc::{AllocError, Global};
+use crate::endless::{ended, endless};
+use std::alloc::Global;
 use std::slice;
 use sve_assigned::{Assigned, Form, Formed, assigned, form_of};
 use sve_bytes::{List, NoMemory};
 use sve_contents::Contents;
 use sve_diag::Note;
-use sve_fault::{Fuel, Halted};
 use sve_here::Here;
 use sve_known::Known;
 use sve_table::Table;
@@ -60,15 +60,7 @@ pub fn type_in(
     ensures { IfOk result (λ t. IsTyped t (told_in text.entry.packages.now text.entry.words.now contents.now) (referred (told_in text.entry.packages.now text.entry.words.now contents.now) written.now [])) }
 {
     let env = around(alloc, text, contents);
-    let mut fuel = Fuel {
-        used: 0,
-        most: u64::MAX,
-    };
-    match type_of(alloc, written, &env, &mut fuel) {
-        Ok(typed) => Ok(typed),
-        Err(Halted::NoMemory) => Err(AllocError),
-        Err(Halted::Over) => unreachable!(),
-    }
+    ended(type_of(alloc, written, &env, &mut endless()))
 }
 
 /// The type of a declared name, written or left out (6.10), where the text of a scope was read so far.
@@ -84,15 +76,7 @@ pub fn declared_in(
     ensures { IfOk result (λ t. IsTyped t (told_in text.entry.packages.now text.entry.words.now contents.now) (declared (told_in text.entry.packages.now text.entry.words.now contents.now) written.now)) }
 {
     let env = around(alloc, text, contents);
-    let mut fuel = Fuel {
-        used: 0,
-        most: u64::MAX,
-    };
-    match declared_type(alloc, written, &env, &mut fuel) {
-        Ok(typed) => Ok(typed),
-        Err(Halted::NoMemory) => Err(AllocError),
-        Err(Halted::Over) => unreachable!(),
-    }
+    ended(declared_type(alloc, written, &env, &mut endless()))
 }
 
 /// A type with unpacked dimensions before its own (7.4.2), which stand where the text of a scope was read so far.
@@ -109,15 +93,7 @@ pub fn unpacked_in(
     ensures { IfOk result (λ t. IsTyped t (told_in text.entry.packages.now text.entry.words.now contents.now) (unpacked_over (told_in text.entry.packages.now text.entry.words.now contents.now) ty.now dimensions.now)) }
 {
     let env = around(alloc, text, contents);
-    let mut fuel = Fuel {
-        used: 0,
-        most: u64::MAX,
-    };
-    match with_unpacked(alloc, ty, dimensions, &env, &mut fuel) {
-        Ok(typed) => Ok(typed),
-        Err(Halted::NoMemory) => Err(AllocError),
-        Err(Halted::Over) => unreachable!(),
-    }
+    ended(with_unpacked(alloc, ty, dimensions, &env, &mut endless()))
 }
 
 /// What there is to say of unpacked dimensions behind a name that has none, as a parameter (own).
@@ -154,15 +130,7 @@ pub fn formed_in(
     ensures { IfOk result (λ f. IsFormed f (told_in text.entry.packages.now text.entry.words.now contents.now) (formed (told_in text.entry.packages.now text.entry.words.now contents.now) written.now)) }
 {
     let env = around(alloc, text, contents);
-    let mut fuel = Fuel {
-        used: 0,
-        most: u64::MAX,
-    };
-    match form_of(alloc, written, &env, &mut fuel) {
-        Ok(formed) => Ok(formed),
-        Err(Halted::NoMemory) => Err(AllocError),
-        Err(Halted::Over) => unreachable!(),
-    }
+    ended(form_of(alloc, written, &env, &mut endless()))
 }
 
 /// The type and the value of a parameter by the expression that is assigned to it (6.20 and 10.7), or what there is to say of the first
@@ -180,13 +148,5 @@ pub fn assigned_in(
     ensures { IfOk result (λ r. r ≡ told_of (told_in text.entry.packages.now text.entry.words.now contents.now) (default_value (told_in text.entry.packages.now text.entry.words.now contents.now) form.now expr.now)) }
 {
     let env = around(alloc, text, contents);
-    let mut fuel = Fuel {
-        used: 0,
-        most: u64::MAX,
-    };
-    match assigned(alloc, form, expr, &env, &mut fuel) {
-        Ok(assigned) => Ok(assigned),
-        Err(Halted::NoMemory) => Err(AllocError),
-        Err(Halted::Over) => unreachable!(),
-    }
+    ended(assigned(alloc, form, expr, &env, &mut endless()))
 }

@@ -2,6 +2,7 @@
 //! that come into the scope (IEEE 1800-2017, 6.18 to 6.20, 23.9 and 26.3).
 #![tactic(auto)]
 
+mod endless;
 mod known;
 mod said;
 

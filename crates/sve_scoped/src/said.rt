@@ -19,9 +19,7 @@ pub fn with_notes(contents: Contents, more: List<Note>) -> Result<Contents, NoMe
 {
     let Contents { scope, notes } = contents;
     let mut notes = notes.into_vec();
-    'notes: for note in more.into_vec() {
-        notes.push(note)?;
-    }
+    notes.append(&mut more.into_vec())?;
     Ok(Contents {
         scope,
         notes: List::of(notes),
