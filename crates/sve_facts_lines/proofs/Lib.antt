@@ -1,3 +1,2 @@
-mod OneLine
 mod Room
 mod Whole

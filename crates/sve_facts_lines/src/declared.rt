@@ -1,12 +1,12 @@
 ghost use Rattle.std.specs.Prelude.{◌≡◌, ◌<◌, ◌+◌, ◌^◌, IfOk, length, option_map};
 ghost use Rattle.sve_facts_lines.specs.Things.{constant_of, kind_text, kind_word, param_lines, sign_text, state_text, type_lines, type_of, type_text, typed_lines, value_lines, width_text};
 
-use crate::line::{at_text, with_text};
+use crate::line::at_text;
 use itoa::Buffer;
 use std::alloc::Global;
 use sve_bytes::NoMemory;
 use sve_diag::Place;
-use sve_listing::none_lines;
+use sve_listing::{none_lines, with_text};
 use sve_report::Lines;
 use sve_scope::{Constant, SharedType, What};
 use sve_types::{Ty, Value, four_state, signed, width};

@@ -3,12 +3,12 @@ ghost use Rattle.sve_listing.specs.Lists.{max_listed, on_one_line};
 ghost use Rattle.sve_facts_lines.specs.Texts.{direction_word};
 ghost use Rattle.sve_facts_lines.specs.Instances.{child_text, data_port_text, face_port_text, face_text, instance_lines, module_text, param_text, port_text};
 
-use crate::line::{append_name, at_text, in_room, with_text};
+use crate::line::{append_name, at_text, in_room};
 use std::alloc::Global;
 use sve_bytes::{Dir, Name, NoMemory};
 use sve_diag::Place;
 use sve_facts::{Child, Facts, ParameterValue, Port};
-use sve_listing::with_more;
+use sve_listing::{with_more, with_text};
 use sve_report::Lines;
 use sve_scope::FaceName;
 

@@ -7,4 +7,4 @@ mod line;
 
 pub use declared::{param_lines, type_lines};
 pub use instance::instance_lines;
-pub use line::{append_name, with_text};
+pub use line::append_name;

@@ -1,38 +1,15 @@
 //! Lines and their parts.
-ghost use Rattle.std.specs.Prelude.{◌≡◌, ◌-◌, ◌<◌, ◌+◌, ◌++◌, ◌∷◌, ◌^◌, [], IfOk, OnOk, decimal, length, take};
+ghost use Rattle.std.specs.Prelude.{◌≡◌, ◌-◌, ◌<◌, ◌+◌, ◌++◌, ◌∷◌, ◌^◌, IfOk, OnOk, decimal, length, take};
 ghost use Rattle.sve_bytes.specs.PathText.{name_text};
-ghost use Rattle.sve_report.specs.Lines.{Lacks};
-ghost use Rattle.sve_listing.specs.Lists.{max_listed, on_one_line};
+ghost use Rattle.sve_listing.specs.Lists.{max_listed};
 ghost use Rattle.sve_facts_lines.specs.Texts.{at_text};
 
 use itoa::Buffer;
 use std::alloc::Global;
 use sve_bytes::{List, Name, NoMemory, Path, Step, line_col};
 use sve_diag::Place;
+use sve_listing::MAX_LISTED;
 use sve_report::Lines;
-
-/// The most lines of a list. Where there are more, one line says how many are left out.
-const MAX_LISTED: usize = 1000;
-
-/// The bytes without their line feeds.
-fn on_one_line(bytes: Vec<u8>) -> Vec<u8>
-    ensures bytes { result.items ≡ on_one_line bytes.items }
-    ensures one_line { Lacks 10 result.items }
-{
-    let mut bytes = bytes;
-    bytes.retain(|b| *b != b'\n');
-    bytes
-}
-
-/// These lines and one more, which is this text without its line feeds.
-///
-/// # Errors
-/// For want of memory alone.
-pub fn with_text(lines: Lines, text: Vec<u8>) -> Result<Lines, NoMemory>
-    ensures { IfOk result (λ all. all ≡ lines ++ on_one_line text.items ∷ []) }
-{
-    lines.with_line(&on_one_line(text))
-}
 
 /// The first of some things: as many as there may be lines more.
 #[tactic(auto, using(crate::proofs::Room::all_in_room))]

@@ -1,5 +1,5 @@
 //! Lists of lines, cut behind the most that they may have.
-ghost use Rattle.std.specs.Prelude.{◌≡◌, IfOk, take};
+ghost use Rattle.std.specs.Prelude.{◌≡◌, ◌++◌, ◌∷◌, [], IfOk, take};
 ghost use Rattle.sve_report.specs.Lines.{Lacks};
 ghost use Rattle.sve_listing.specs.Lists.{max_listed, more_line, on_one_line, with_more};
 
@@ -9,7 +9,7 @@ use sve_bytes::NoMemory;
 use sve_report::Lines;
 
 /// The most lines of a list. Where there are more, one line says how many are left out.
-const MAX_LISTED: usize = 1000;
+pub const MAX_LISTED: usize = 1000;
 
 /// Those of a list that are shown: as many as there may be lines, 1,000 at most. It takes no memory.
 #[tactic(auto, using(crate::proofs::Cuts::all_shown))]
@@ -31,6 +31,16 @@ pub(crate) fn on_one_line(bytes: Vec<u8>) -> Vec<u8>
     let mut bytes = bytes;
     bytes.retain(|b| *b != b'\n');
     bytes
+}
+
+/// These lines and one more, which is this text without its line feeds.
+///
+/// # Errors
+/// For want of memory alone.
+pub fn with_text(lines: Lines, text: Vec<u8>) -> Result<Lines, NoMemory>
+    ensures { IfOk result (λ all. all ≡ lines ++ on_one_line text.items ∷ []) }
+{
+    lines.with_line(&on_one_line(text))
 }
 
 /// `more <n>`

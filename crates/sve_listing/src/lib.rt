@@ -8,8 +8,7 @@ mod opened;
 mod spot;
 mod tops;
 
-pub use cut::{shown, with_more};
+pub use cut::{MAX_LISTED, shown, with_more, with_text};
 pub use diags::diags_lines;
 pub use files::{expanded_lines, none_lines, text_lines};
-pub use opened::Opened;
 pub use tops::tops_lines;

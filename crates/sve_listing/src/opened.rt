@@ -1,5 +1,5 @@
 //! The text of a file, gone through from one place to the next.
-ghost use Rattle.std.specs.Prelude.{◌≡◌, ◌≤◌, [], IfOk, IfSome, IsTrue, length, min};
+ghost use Rattle.std.specs.Prelude.{◌≡◌, ◌≤◌, ◌↔◌, [], IfOk, IfSome, IsTrue, length, min};
 ghost use Rattle.std.specs.Arc.{arc_value};
 ghost use Rattle.sve_report.specs.Lines.{Lacks};
 ghost use Rattle.sve_text.specs.Rows.{IsInLimit};
@@ -17,7 +17,7 @@ use sve_diag::{Diag, Place};
 
 /// A file that was opened, and how far its text was gone through.
 #[derive(Drop)]
-pub struct Opened {
+pub(crate) struct Opened {
     file: Name,
     text: Option<Arc<List<u8>>>,
     spot: Spot,
@@ -61,10 +61,7 @@ fn spot_line(alloc: Global, diag: &Diag, spot: Spot) -> Result<Vec<u8>, NoMemory
 
 impl Opened {
     /// A file with this text, at its start. One that is not there has no bytes.
-    ///
-    /// # Errors
-    /// For want of memory alone.
-    pub fn of(file: &Name, text: Option<Arc<List<u8>>>) -> Result<Opened, NoMemory>
+    pub(crate) fn of(file: &Name, text: Option<Arc<List<u8>>>) -> Result<Opened, NoMemory>
         requires in_limit { IfSome text (λ shared. IsInLimit (arc_value shared)) }
         ensures { IfOk result (λ o. o ≡ record { file = file.now; text = bytes_in text; at = 0 }) }
     {
@@ -76,16 +73,15 @@ impl Opened {
         })
     }
 
-    /// Whether the place is in this file, and not in front of where the text was gone through to. It takes no memory.
-    pub fn is_before(&self, place: &Place) -> bool
-        ensures file { IsTrue result → self.now.file ≡ place.now.file }
-        ensures before { IsTrue result → self.now.at ≤ place.now.offset }
+    /// Whether the place is in this file, and not in front of where the text was gone through to.
+    pub(crate) fn is_before(&self, place: &Place) -> bool
+        ensures { IsTrue result ↔ (self.now.file ≡ place.now.file) × (self.now.at ≤ place.now.offset) }
     {
         self.file == place.file && self.spot.at <= place.offset as usize
     }
 
-    /// Goes on to an offset, or to the end of the text. It takes no memory.
-    pub fn gone_to(self, offset: u32) -> Opened
+    /// Goes on to an offset, or to the end of the text.
+    pub(crate) fn gone_to(self, offset: u32) -> Opened
         requires before { self.at ≤ offset }
         ensures { result ≡ record { file = self.file; text = self.text; at = min offset (length self.text) } }
     {
@@ -97,10 +93,7 @@ impl Opened {
 
     /// The line of a diagnostic at whose place it is: the place, as file, line and column, the code, and the argument, where it
     /// has one. A place behind the end of its file, which none has, is shown at the end.
-    ///
-    /// # Errors
-    /// For want of memory alone.
-    pub fn line(&self, alloc: Global, diag: &Diag) -> Result<Vec<u8>, NoMemory>
+    pub(crate) fn line(&self, alloc: Global, diag: &Diag) -> Result<Vec<u8>, NoMemory>
         requires here { self.now.at ≡ min diag.now.place.offset (length self.now.text) }
         ensures line { IfOk result (λ line. line.items ≡ line_in self.now.text diag.now) }
         ensures one_line { IfOk result (λ line. Lacks 10 line.items) }

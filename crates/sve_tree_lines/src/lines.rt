@@ -4,8 +4,8 @@ ghost use Rattle.sve_tree_lines.specs.Tree.{tree_lines, visit_text};
 use std::alloc::Global;
 use sve_bytes::NoMemory;
 use sve_design::Visit;
-use sve_facts_lines::{append_name, with_text};
-use sve_listing::{shown, with_more};
+use sve_facts_lines::append_name;
+use sve_listing::{shown, with_more, with_text};
 use sve_report::Lines;
 
 /// `<path> <module>`
