@@ -2,3 +2,4 @@ pub mod Known
 pub mod Within
 pub mod Values
 pub mod Resolving
+pub mod Taken

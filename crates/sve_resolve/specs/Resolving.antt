@@ -1,5 +1,5 @@
 -- The parameters of a header in the order of the text, each over those before it (IEEE 1800-2017, 6.20 and 23.10).
-use Rattle.std.specs.Prelude.{ℕ, ◌+◌, ◌-◌, ◌^◌, min, Bool, true, false, if◌then◌else◌, List, [], ◌∷◌, ◌++◌, slice_get, Option, Some, None}
+use Rattle.std.specs.Prelude.{ℕ, ◌+◌, ◌-◌, ◌^◌, min, Bool, false, if◌then◌else◌, List, [], ◌∷◌, ◌++◌, slice_get, Option, Some, None}
 use Rattle.sve_tree.specs.declared.word.ParameterKeyword.{ParameterKeyword}
 use Rattle.sve_tree.specs.declared.word.ParameterKeyword.TheVariants.{Parameter}
 use Rattle.sve_tree.specs.declared.header.Header.{Header}

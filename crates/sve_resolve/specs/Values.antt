@@ -1,5 +1,5 @@
 -- One parameter of a header: the form of its type, and its value by what it is given (IEEE 1800-2017, 6.20 and 23.10).
-use Rattle.std.specs.Prelude.{◌≡◌, ℕ, ◌+◌, Bool, true, false, not, ◌&&◌, ◌||◌, if◌then◌else◌, List, [], ◌∷◌, ◌++◌, Option, Some, None, is_none, Result, Ok, Err}
+use Rattle.std.specs.Prelude.{ℕ, ◌+◌, Bool, true, false, not, ◌&&◌, ◌||◌, if◌then◌else◌, List, [], ◌∷◌, ◌++◌, Option, Some, None, is_none, Result, Ok, Err}
 use Rattle.sve_diag.specs.declared.code.Code.TheVariants.{E06}
 use Rattle.sve_diag.specs.declared.diag.Note.{Note}
 use Rattle.sve_tree.specs.declared.data_type.Declarator.{Declarator}

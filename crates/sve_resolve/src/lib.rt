@@ -4,9 +4,14 @@
 
 mod found;
 mod known;
+mod laws;
 mod resolving;
 mod valued;
 mod within;
 
 pub use known::Resolved;
+pub use laws::{
+    lists_have_all_that_can_be_overridden, no_other_overrides_are_taken,
+    parameters_take_overrides_in_order,
+};
 pub use resolving::{Params, resolve};
