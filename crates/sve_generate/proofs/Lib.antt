@@ -1,3 +1,4 @@
+pub mod Blocks
 pub mod Items
 pub mod Names
 pub mod FreeZeros

@@ -1,5 +1,10 @@
 -- Generate constructs among the items of a scope (IEEE 1800-2017, 27.3 and 27.5).
-use Rattle.std.specs.Prelude.{ℕ, ◌+◌, Bool, true, false}
+use Rattle.std.specs.Prelude.{ℕ, ◌+◌, Bool, true, false, if◌then◌else◌, nat_le, Option, Some, None}
+use Rattle.sve_diag.specs.declared.code.Code.TheVariants.{E15}
+use Rattle.sve_fault.specs.declared.fault.Fault.{Fault}
+use Rattle.sve_fault.specs.Faults.{fault_at}
+use Rattle.sve_tree.specs.Items.{generate_block_tree}
+use Rattle.sve_tree.specs.Shape.{first_token_of}
 use Rattle.sve_tree.specs.declared.item.Item.{Item}
 use Rattle.sve_tree.specs.declared.item.GenerateRegion.{Row_of-Item, end_of-Item, more_of-Item}
 use Rattle.sve_tree.specs.declared.item.GenerateBlock.{GenerateBlock}
@@ -29,3 +34,16 @@ is_conditional item = false
 unfoldable pub is_nested_conditional : GenerateBlock → Bool
 is_nested_conditional (is_generate_block.Item' _ item) = is_conditional item
 is_nested_conditional block = false
+
+-- the token, where there is one
+abbrev pub token_or : Option ℕ → ℕ
+token_or None = 0
+token_or (Some token) = token
+
+-- the first token of a block: `begin`, or that of its item
+abbrev pub block_token : GenerateBlock → ℕ
+block_token block = token_or (first_token_of (generate_block_tree block))
+
+-- what is said of a block with this first token, which has so many blocks around it: the 33rd of blocks inside one another has no contents (own)
+abbrev pub nesting_fault : ℕ → ℕ → Option Fault
+nesting_fault around token = if nat_le 32 around then Some (fault_at token E15) else None

@@ -7,6 +7,8 @@ pub mod laws;
 mod naming;
 mod unrolling;
 
-pub use constructs::{MAX_NESTING, is_conditional, is_nested_conditional, is_too_deep};
+pub use constructs::{
+    MAX_NESTING, block_token, is_conditional, is_nested_conditional, is_too_deep, nesting_fault,
+};
 pub use naming::block_names;
 pub use unrolling::{LoopExpressions, unroll};
