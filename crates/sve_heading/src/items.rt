@@ -23,16 +23,22 @@ fn in_assignments(
     Ok(())
 }
 
-/// Adds the names that a declaration of parameters declares, and its type.
-fn in_parameters(declaration: &Parameters, found: &mut Vec<Heading>) -> Result<(), NoMemory>
+/// Adds the names that a declaration of parameters declares, and its type (IEEE 1800-2017, 6.20).
+///
+/// # Errors
+/// For want of memory alone.
+pub fn in_parameters(declaration: &Parameters, found: &mut Vec<Heading>) -> Result<(), NoMemory>
     ensures { OnOk result (found.new.items ≡ found.old.items ++ parameters_headings declaration.now) }
 {
     in_declared_type(&declaration.data_type, found)?;
     in_assignments(declaration.assignments.as_slice(), found)
 }
 
-/// Adds the names that the declaration of a type declares.
-fn in_typedef(declaration: &Typedef, found: &mut Vec<Heading>) -> Result<(), NoMemory>
+/// Adds the names that the declaration of a type declares (6.18).
+///
+/// # Errors
+/// For want of memory alone.
+pub fn in_typedef(declaration: &Typedef, found: &mut Vec<Heading>) -> Result<(), NoMemory>
     ensures { OnOk result (found.new.items ≡ found.old.items ++ typedef_headings declaration.now) }
 {
     in_type_ref(&declaration.data_type, found)?;
@@ -53,8 +59,11 @@ fn in_result(result_type: &FunctionResult, found: &mut Vec<Heading>) -> Result<(
     }
 }
 
-/// Adds the name of a function, behind those that the type of its result declares.
-fn in_function(function: &Func, found: &mut Vec<Heading>) -> Result<(), NoMemory>
+/// Adds the name of a function, behind those that the type of its result declares (13.4).
+///
+/// # Errors
+/// For want of memory alone.
+pub fn in_function(function: &Func, found: &mut Vec<Heading>) -> Result<(), NoMemory>
     ensures { OnOk result (found.new.items ≡ found.old.items ++ function_headings function.now) }
 {
     in_result(&function.result_type, found)?;

@@ -7,4 +7,5 @@ mod items;
 mod types;
 
 pub use heading::Heading;
-pub use items::headings;
+pub use items::{headings, in_function, in_parameters, in_typedef};
+pub use types::{in_declared_type, in_type_ref};

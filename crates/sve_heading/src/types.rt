@@ -19,10 +19,14 @@ fn in_enum_names(names: &[EnumName], found: &mut Vec<Heading>) -> Result<(), NoM
     Ok(())
 }
 
-/// Adds the names that a type by its keyword or by its name declares.
+/// Adds the names that a type by its keyword or by its name declares where it is written: those of enumerations, also within
+/// structures (IEEE 1800-2017, 6.19 and 7.2.1).
+///
+/// # Errors
+/// For want of memory alone.
 #[cycle(types)]
 #[tactic(auto, using(crate::proofs::WrittenTypes::of_written, crate::proofs::WrittenTypes::of_named, std::proofs::lemmas::Grind::common_steps))]
-pub(crate) fn in_type_ref(type_ref: &TypeRef, found: &mut Vec<Heading>) -> Result<(), NoMemory>
+pub fn in_type_ref(type_ref: &TypeRef, found: &mut Vec<Heading>) -> Result<(), NoMemory>
     ensures { OnOk result (found.new.items ≡ found.old.items ++ type_ref_headings type_ref.now) }
 {
     match type_ref {
@@ -65,10 +69,10 @@ fn in_members(members: &[Members], found: &mut Vec<Heading>) -> Result<(), NoMem
 }
 
 /// Adds the names that the type of a declaration declares, where it has one.
-pub(crate) fn in_declared_type(
-    data_type: &DeclaredType,
-    found: &mut Vec<Heading>,
-) -> Result<(), NoMemory>
+///
+/// # Errors
+/// For want of memory alone.
+pub fn in_declared_type(data_type: &DeclaredType, found: &mut Vec<Heading>) -> Result<(), NoMemory>
     ensures { OnOk result (found.new.items ≡ found.old.items ++ declared_type_headings data_type.now) }
 {
     match data_type {

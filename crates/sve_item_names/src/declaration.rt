@@ -1,18 +1,26 @@
-ghost use Rattle.std.specs.Prelude.{◌≡◌, ◌++◌, OnOk, map};
+ghost use Rattle.std.specs.Prelude.{◌≡◌, ◌∷◌, ◌++◌, [], OnOk, map};
 ghost use Rattle.sve_heading.specs.Types.{declared_type_headings, name_heading, type_ref_headings};
 ghost use Rattle.sve_item_names.specs.declared.name.ItemName.TheVariants as is_name;
 ghost use Rattle.sve_item_names.specs.Declarations.{declaration_headings, declarator_heading, declarators_headings, modport_heading};
 
 use crate::name::ItemName;
-use crate::types::{
-    add_name, in_declared_type, in_function, in_parameters, in_type_ref, in_typedef,
-};
 use std::alloc::Global;
 use sve_bytes::NoMemory;
-use sve_heading::Heading;
+use sve_heading::{Heading, in_declared_type, in_function, in_parameters, in_type_ref, in_typedef};
 use sve_tree::{
     DataDeclaration, InitializedDeclarator, Item, Modport, NetDeclaration, VariableDeclaration,
 };
+
+/// Adds the name at a token, which is not that of a function.
+pub(crate) fn add_name(token: u32, found: &mut Vec<Heading>) -> Result<(), NoMemory>
+    ensures { OnOk result (found.new.items ≡ found.old.items ++ name_heading token ∷ []) }
+{
+    found.push(Heading {
+        token,
+        is_function: false,
+    })?;
+    Ok(())
+}
 
 /// Adds names.
 fn in_names(names: &[u32], found: &mut Vec<Heading>) -> Result<(), NoMemory>

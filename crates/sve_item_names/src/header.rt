@@ -2,10 +2,10 @@ ghost use Rattle.std.specs.Prelude.{◌≡◌, ◌++◌, IfOk, OnOk};
 ghost use Rattle.std.specs.List.{flat_map};
 ghost use Rattle.sve_item_names.specs.Declarations.{header_headings, parameter_port_headings, parameters_of, port_headings, port_type_headings, ports_of};
 
-use crate::types::{add_name, in_declared_type};
+use crate::declaration::add_name;
 use std::alloc::Global;
 use sve_bytes::NoMemory;
-use sve_heading::Heading;
+use sve_heading::{Heading, in_declared_type};
 use sve_tree::{Header, ParameterPort, Port, PortType};
 
 /// Adds the names that a parameter of a header declares.

@@ -6,7 +6,6 @@ mod declaration;
 mod header;
 mod items;
 mod name;
-mod types;
 
 pub use header::header_names;
 pub use items::{item_names, names_of_item};

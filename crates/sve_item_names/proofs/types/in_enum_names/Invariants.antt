@@ -1,7 +1,0 @@
--- What was added so far, and the names that are left, are all of them.
-use Rattle.std.proofs.Common.{◌≡◌, ◌++◌, drop, map}
-use Rattle.sve_heading.specs.Types.{enum_name_heading}
-use Rattle.sve_item_names.proofs.types.in_enum_names.Given as goal
-
-abbrev pub invariant-loop-name : goal.invariant-loop-name
-invariant-loop-name l = l.found.items ++ map enum_name_heading (drop l.name-index l.names) ≡ l.initial.found.items ++ map enum_name_heading l.names
