@@ -1,5 +1,5 @@
 -- The candidates from a place on.
-use Rattle.std.proofs.Common.{arith, ◌≡◌, ◌≤◌, ◌+◌, ℕ, zero, suc, Bool, true, false, List, [], ◌∷◌, length, drop, slice_get, is_some, None, Some, refl, nat_eq, sym, if◌then◌else◌}
+use Rattle.std.proofs.Common.{arith, ◌≡◌, ◌≤◌, ◌+◌, ℕ, zero, suc, Bool, true, false, List, [], ◌∷◌, length, drop, slice_get, is_some, None, Some, refl, nat_eq, if◌then◌else◌}
 use Rattle.std.proofs.Math.Numerals.{add-one}
 use Rattle.std.specs.Cmp.Lexicographic.{pointwise}
 use Rattle.sve_table.specs.Tables.{item_of}
@@ -10,12 +10,12 @@ use Rattle.sve_scope.specs.Spots.{stands_before}
 use Rattle.sve_scope.specs.Scopes.{itself}
 use Rattle.sve_scope.specs.Lookup.{candidate, candidates}
 
-split_there : {X : Type 0} (xs : List X) (i : ℕ) (x : X) → slice_get xs i ≡ Some x → drop i xs ≡ x ∷ drop (suc i) xs
+pub split_there : {X : Type 0} (xs : List X) (i : ℕ) (x : X) → slice_get xs i ≡ Some x → drop i xs ≡ x ∷ drop (suc i) xs
 split_there [] i x h = cc
 split_there (y ∷ ys) zero x h = cc
 split_there (y ∷ ys) (suc i) x h = split_there ys i x h
 
-none_behind : {X : Type 0} (xs : List X) (i : ℕ) → length xs ≤ i → drop i xs ≡ []
+pub none_behind : {X : Type 0} (xs : List X) (i : ℕ) → length xs ≤ i → drop i xs ≡ []
 none_behind [] zero h = refl
 none_behind [] (suc i) h = refl
 none_behind (y ∷ ys) zero h = absurd (omega arith)

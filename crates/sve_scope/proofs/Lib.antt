@@ -1,1 +1,3 @@
 pub mod Candidates
+pub mod Chains
+pub mod Enclosed

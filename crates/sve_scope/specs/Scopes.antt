@@ -1,5 +1,5 @@
 -- A scope, as the lists of what is declared in it and imported into it, and how it grows (IEEE 1800-2017, 23.9 and 26.3).
-use Rattle.std.specs.Prelude.{ℕ, Bool, true, false, not, ◌||◌, List, [], Option, Some, None, is_some, nat_eq, if◌then◌else◌}
+use Rattle.std.specs.Prelude.{ℕ, zero, suc, Bool, false, not, ◌||◌, List, [], ◌∷◌, Option, Some, None, is_some, nat_eq, if◌then◌else◌}
 use Rattle.std.specs.Cmp.Lexicographic.{pointwise}
 use Rattle.sve_table.specs.Tables.{item_of, with_item}
 use Rattle.sve_scope.specs.declared.declared.Declared.{Declared}
@@ -85,3 +85,9 @@ importing_all s w = record s { wild = with_item wildcard_name s.wild w }
 -- a name more that a use has found through an import of all names of a package
 abbrev pub taking : Scope → List ℕ → Scope
 taking s n = record s { taken = with_item itself s.taken n }
+
+-- the same in one of many scopes, by its place
+abbrev pub taking_at : List Scope → ℕ → List ℕ → List Scope
+taking_at [] place n = []
+taking_at (s ∷ ss) zero n = taking s n ∷ ss
+taking_at (s ∷ ss) (suc place) n = s ∷ taking_at ss place n

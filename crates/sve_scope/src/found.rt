@@ -1,8 +1,8 @@
-ghost use Rattle.std.specs.Prelude.{◌≡◌, option_map};
+ghost use Rattle.std.specs.Prelude.{◌≡◌, ◌∷◌, option_map};
 ghost use Rattle.sve_scope.specs.Spots.{spot};
-ghost use Rattle.sve_scope.specs.Lookup.{Begin, candidates, from_candidates, in_scope, looked_up, meaning_of, seen_declaration, seen_import};
+ghost use Rattle.sve_scope.specs.Lookup.{Begin, candidates, from_candidates, in_scope, in_scopes, looked_up, meaning_of, seen_declaration, seen_import};
 
-use crate::{Declared, Explicit, Scope};
+use crate::{Declared, Enclosing, Explicit, Scope};
 use sve_bytes::Name;
 use sve_table::Named;
 
@@ -24,23 +24,37 @@ pub enum Found<'a> {
 pub enum Through {
     /// An import of this name.
     Name,
-    /// An import of all names of the package, in the scope at this place of the chain, counted from 0. Such an import has taken
+    /// An import of all names of the package, in the scope at this place, counted from 0 at the innermost. Such an import has taken
     /// effect for the name, which that scope should note.
     Package(usize),
 }
 
-/// What a name stands for that is used at a token of the text of the first scope of a chain (IEEE 1800-2017, 6.5, 23.9 and 26.3).
-/// The scopes are searched in order, from the innermost to that of the compilation unit, which a package does not see (own). In
-/// each scope a declaration that the use sees is taken first, then an import of the name before the use, then the imports of all
-/// names of packages before the use. It takes no memory.
-pub fn lookup<'a>(chain: &'a [Scope], name: &Name, token: u32) -> Found<'a>
-    ensures { meaning_of result ≡ looked_up chain.now name.now token }
+/// What a name stands for that is used at a token of the text of a scope (IEEE 1800-2017, 6.5, 23.9 and 26.3). The scope and those
+/// around it are searched in order, from the innermost to that of the compilation unit, which a package does not see (own). In each
+/// scope a declaration that the use sees is taken first, then an import of the name before the use, then the imports of all names of
+/// packages before the use. It takes no memory.
+pub fn lookup<'a>(
+    here: &'a Scope,
+    around: &'a Enclosing<Scope>,
+    name: &Name,
+    token: u32,
+) -> Found<'a>
+    ensures { meaning_of result ≡ looked_up (here.now ∷ around.now) name.now token }
 {
-    let Some(here) = chain.first() else {
-        return Found::None;
-    };
-    'scopes: for (place, scope) in chain.iter().enumerate() {
-        let found = in_scope(scope, place, here, token, name);
+    let found = in_scope(here, 0, here, token, name);
+    if !matches!(found, Found::None) {
+        return found;
+    }
+    outside(here, around, name, token)
+}
+
+/// What the name stands for in the scopes around.
+#[tactic(auto, using(crate::proofs::Chains::ends_there))]
+fn outside<'a>(here: &Scope, around: &'a Enclosing<Scope>, name: &Name, token: u32) -> Found<'a>
+    ensures { meaning_of result ≡ in_scopes (spot here.now.file here.now.chunk token) name.now 1 around.now }
+{
+    'scopes: for place in 0..around.len() {
+        let found = in_scope(around.at(place), place + 1, here, token, name);
         if !matches!(found, Found::None) {
             return found;
         }
@@ -48,7 +62,7 @@ pub fn lookup<'a>(chain: &'a [Scope], name: &Name, token: u32) -> Found<'a>
     Found::None
 }
 
-/// What the name stands for in the scope at this place of the chain.
+/// What the name stands for in the scope at this place.
 fn in_scope<'a>(scope: &'a Scope, place: usize, here: &Scope, token: u32, name: &Name) -> Found<'a>
     ensures { meaning_of result ≡ in_scope (spot here.now.file here.now.chunk token) name.now place scope.now }
 {

@@ -2,6 +2,7 @@
 #![tactic(auto)]
 
 mod declared;
+mod enclosing;
 mod found;
 mod import;
 mod scope;
@@ -10,6 +11,7 @@ mod spot;
 mod what;
 
 pub use declared::Declared;
+pub use enclosing::Enclosing;
 pub use found::{Found, Through, lookup};
 pub use import::{Explicit, Wildcard};
 pub use scope::{Entered, Scope};
