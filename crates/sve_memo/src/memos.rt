@@ -1,5 +1,5 @@
 ghost use Rattle.std.specs.Prelude.{◌≡◌, [], IfOk, OnOk, OnErr, option_map};
-ghost use Rattle.sve_memo.specs.Memos.{memo_in, put_memo};
+ghost use Rattle.sve_memo.specs.Memos.{memo_in, put_memo, IsInOrder};
 
 use crate::memo::Memo;
 use crate::tree::Tree;
@@ -57,6 +57,27 @@ impl<Q: Ord + Drop, V: Drop> Memos<Q, V> {
         ensures { option_map (λ memo. memo.now) result ≡ memo_in Q.cmp self.now key.now }
     {
         self.tree.find(key)
+    }
+
+    /// What holds of all memos: they stand in the order of their keys, at most one for each. It does nothing.
+    pub fn stay_in_order(&self)
+        ensures { IsInOrder Q.cmp self.now }
+    {
+        // What the type keeps is known where one of its fields is looked at.
+        let _ = &self.tree;
+    }
+
+    /// All memos, in the order of their keys, at most one for each. They share what was found.
+    ///
+    /// # Errors
+    /// Only for want of memory.
+    pub fn list(&self, alloc: Global) -> Result<Vec<Memo<Q, V>>, NoMemory>
+        ensures order { IsInOrder Q.cmp self.now }
+        ensures all { IfOk result (λ memos. memos.items ≡ self.now) }
+    {
+        let mut memos = Vec::new(alloc);
+        self.tree.list(&mut memos)?;
+        Ok(memos)
     }
 
     /// Puts a memo in, in the place of the one of its key, if there is one.

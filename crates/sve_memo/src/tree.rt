@@ -1,6 +1,6 @@
 //! Memos in a height-balanced search tree, whose versions share what they have in common. Balance is a matter of speed
 //! alone, so no contract speaks of heights.
-ghost use Rattle.std.specs.Prelude.{◌≡◌, ◌∷◌, ◌++◌, IfOk, option_map};
+ghost use Rattle.std.specs.Prelude.{◌≡◌, ◌∷◌, ◌++◌, IfOk, OnOk, option_map};
 ghost use Rattle.sve_memo.specs.Memos.{memo_in, put_memo, IsInOrder};
 ghost use Rattle.sve_memo.specs.Trees.{memos_of};
 
@@ -45,6 +45,21 @@ impl<Q: Drop, V: Drop> Tree<Q, V> {
         match self {
             Tree::Leaf => 0,
             Tree::Fork(branch) => branch.height,
+        }
+    }
+
+    /// Adds the memos of the tree, in order, behind those that are there. They share what was found.
+    pub(crate) fn list(&self, memos: &mut Vec<Memo<Q, V>>) -> Result<(), NoMemory>
+        ensures { OnOk result (memos.new.items ≡ memos.old.items ++ memos_of self.now) }
+    {
+        match self {
+            Tree::Leaf => Ok(()),
+            Tree::Fork(branch) => {
+                let branch: &Branch<Q, V> = branch;
+                branch.left.list(memos)?;
+                memos.push(branch.memo.share()?)?;
+                branch.right.list(memos)
+            }
         }
     }
 }
