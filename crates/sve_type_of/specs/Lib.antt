@@ -1,3 +1,4 @@
 pub mod Written
 pub mod TypeOf
 pub mod Nodes
+pub mod Selected

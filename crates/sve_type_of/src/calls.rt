@@ -18,7 +18,7 @@ use sve_type_rule::{Typed as Outcome, no_ranges, unpacked};
 use sve_types::Ty;
 
 /// A type, and what is said of its faults.
-fn said<E: Env>(alloc: Global, typed: Outcome, env: &E) -> Result<Typed, NoMemory>
+pub(crate) fn said<E: Env>(alloc: Global, typed: Outcome, env: &E) -> Result<Typed, NoMemory>
     ensures { IfOk result (λ t. IsTyped t (E.told env.now) (outcome typed)) }
 {
     let Outcome { ty, faults } = typed;

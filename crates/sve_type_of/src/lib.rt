@@ -3,8 +3,12 @@
 #![tactic(auto)]
 
 mod calls;
+mod keywords;
 mod said;
+mod selected;
 mod written;
 
 pub use calls::{declared_type, type_of, with_unpacked};
+pub use keywords::keyword_type;
 pub use said::Typed;
+pub use selected::selected_type;

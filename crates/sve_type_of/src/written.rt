@@ -105,7 +105,7 @@ pub(crate) fn referred<E: Env>(
 /// A type that begins with a keyword.
 #[cycle(written)]
 #[tactic(auto, unfolding(crate::specs::TypeOf::written, crate::specs::Nodes::written_nodes))]
-fn written<E: Env>(
+pub(crate) fn written<E: Env>(
     alloc: Global,
     data_type: &DataType,
     faults: Vec<Fault>,
