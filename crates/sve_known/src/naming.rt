@@ -1,4 +1,4 @@
-ghost use Rattle.std.specs.Prelude.{◌≡◌, IfOk, option_map};
+ghost use Rattle.std.specs.Prelude.{◌≡◌, ◌∷◌, IfOk, option_map};
 ghost use Rattle.std.specs.Result.{result_map_both};
 ghost use Rattle.sve_scope.specs.Lookup.{meaning_of};
 ghost use Rattle.sve_fault.specs.Faults.{fault_at};
@@ -9,7 +9,7 @@ use crate::Known;
 use sve_bytes::{Name, NoMemory};
 use sve_diag::Code;
 use sve_fault::{Fault, Said};
-use sve_scope::{Found, Scope, What, lookup};
+use sve_scope::{Enclosing, Found, Scope, What, lookup};
 use sve_table::Table;
 use sve_tree::{ScopedName, Word};
 
@@ -130,13 +130,14 @@ fn of_found<'a>(
 fn of_plain<'a>(
     packages: &'a Table<Known>,
     words: &'a [Word],
-    chain: &'a [Scope],
+    scope: &'a Scope,
+    around: &'a Enclosing<Scope>,
     token: u32,
 ) -> Result<&'a What, Wrong<'a>>
-    ensures { result_map_both (λ w. w.now) fault_of result ≡ of_plain packages.now chain.now token (name_at words.now token) }
+    ensures { result_map_both (λ w. w.now) fault_of result ≡ of_plain packages.now (scope.now ∷ around.now) token (name_at words.now token) }
 {
     match name_at(words, token) {
-        Some(name) => of_found(packages, token, name, lookup(chain, name, token)),
+        Some(name) => of_found(packages, token, name, lookup(scope, around, name, token)),
         None => Err(nameless(token, Code::N01)),
     }
 }
@@ -159,19 +160,20 @@ fn of_scoped<'a>(
     }
 }
 
-/// What a name stands for where these packages are known, by the words of its chunk and the scopes that see it, from the innermost
-/// outward; or what is wrong with it (IEEE 1800-2017, 6.5, 23.9 and 26.3): a name that stands for nothing (N01), a package that is
+/// What a name stands for where these packages are known, by the words of its chunk, the scope in whose text it stands, and those
+/// around that scope; or what is wrong with it (IEEE 1800-2017, 6.5, 23.9 and 26.3): a name that stands for nothing (N01), a package that is
 /// not known (N04), a name that it does not declare (N05), a name of two packages (N06). It takes no memory.
 pub fn named<'a>(
     packages: &'a Table<Known>,
     words: &'a [Word],
-    chain: &'a [Scope],
+    here: &'a Scope,
+    around: &'a Enclosing<Scope>,
     name: ScopedName,
 ) -> Result<&'a What, Wrong<'a>>
-    ensures { result_map_both (λ w. w.now) fault_of result ≡ of_name packages.now words.now chain.now name }
+    ensures { result_map_both (λ w. w.now) fault_of result ≡ of_name packages.now words.now (here.now ∷ around.now) name }
 {
     match name.scope {
         Some(scope) => of_scoped(packages, words, scope.name, name.name),
-        None => of_plain(packages, words, chain, name.name),
+        None => of_plain(packages, words, here, around, name.name),
     }
 }
