@@ -1,3 +1,4 @@
 pub mod Reading
+pub mod Nested
 pub mod Imports
 pub mod Uses

@@ -15,8 +15,9 @@ use Rattle.sve_scope.specs.Scopes.{announcing, declared_as, declaring}
 use Rattle.sve_contents.specs.declared.contents.Contents.{Contents}
 use Rattle.sve_contents.specs.declared.contents.Entering.{Entering}
 
+-- a scope with nothing around it
 abbrev pub empty_contents : Scope → Contents
-empty_contents s = record { scope = s; notes = [] }
+empty_contents s = record { scope = s; around = []; notes = [] }
 
 abbrev pub with_scope : Contents → Scope → Contents
 with_scope c s = record c { scope = s }
@@ -28,6 +29,10 @@ spot_in c token = spot c.scope.file c.scope.chunk token
 -- a note more
 abbrev pub noted : Contents → Note → Contents
 noted c note = record c { notes = c.notes ++ note ∷ [] }
+
+-- and many notes more
+abbrev pub noted_all : Contents → List Note → Contents
+noted_all c notes = record c { notes = c.notes ++ notes }
 
 -- this is said of a name at a token of its text
 abbrev pub remarked : Contents → ℕ → Code → Option (List ℕ) → Contents

@@ -1,17 +1,37 @@
 ghost use Rattle.std.specs.Prelude.{◌≡◌, IfOk, Some};
-ghost use Rattle.sve_contents.specs.Reading.{announcing_in, declaration_entering, declaring_in, empty_contents, noted, remarked, said, spot_in, with_entry};
+ghost use Rattle.sve_contents.specs.Reading.{announcing_in, declaration_entering, declaring_in, empty_contents, noted, noted_all, noted_if, remarked, said, spot_in, with_entry};
 ghost use Rattle.sve_scope.specs.Scopes.{empty_scope};
 
 use std::alloc::Global;
 use sve_bytes::{List, Name, NoMemory};
 use sve_diag::{Code, Note};
 use sve_fault::Fault;
-use sve_scope::{Declared, Entered, Scope, Spot};
+use sve_scope::{Declared, Enclosing, Entered, Scope, Spot};
 
-/// A scope, as far as its text is read, and what is to be said of that text.
-#[derive(Drop)]
+/// A scope, as far as its text is read, the scopes around it, and what is to be said of that text.
 pub struct Contents {
     /// The scope. What is said of it stands in its file and chunk.
+    pub scope: Scope,
+    /// The scopes around it, which its text sees.
+    pub around: Enclosing<Scope>,
+    /// What is to be said, in the order of the text.
+    pub notes: List<Note>,
+}
+
+impl Drop for Contents {
+    fn drop(self) {
+        let Contents {
+            scope: _,
+            around: _,
+            notes: _,
+        } = self;
+    }
+}
+
+/// What is found of a scope whose text is read to its end.
+#[derive(Drop)]
+pub struct Finished {
+    /// The scope.
     pub scope: Scope,
     /// What is to be said, in the order of the text.
     pub notes: List<Note>,
@@ -27,25 +47,78 @@ pub(crate) struct Entering {
 }
 
 impl Contents {
-    /// A scope of the text of this chunk, with nothing in it. It takes no memory.
+    /// A scope of the text of this chunk, with nothing in it and nothing around it. It takes no memory.
     pub fn new(alloc: Global, file: Name, chunk: u32) -> Contents
         ensures { result ≡ empty_contents (empty_scope file chunk) }
     {
         Contents {
             scope: Scope::new(alloc, file, chunk),
+            around: Enclosing::new(alloc),
             notes: List::of(Vec::new(alloc)),
         }
+    }
+
+    /// What is found of the scope, whose text is read to its end. It takes no memory.
+    pub fn finished(self) -> Finished
+        ensures scope { result.scope ≡ self.scope }
+        ensures notes { result.notes ≡ self.notes }
+    {
+        let Contents {
+            scope,
+            around: _,
+            notes,
+        } = self;
+        Finished { scope, notes }
     }
 
     /// A note more.
     fn with_note(self, note: Note) -> Result<Contents, NoMemory>
         ensures { IfOk result (λ c. c ≡ noted self note) }
     {
-        let Contents { scope, notes } = self;
+        let Contents {
+            scope,
+            around,
+            notes,
+        } = self;
         let mut notes = notes.into_vec();
         notes.push(note)?;
         Ok(Contents {
             scope,
+            around,
+            notes: List::of(notes),
+        })
+    }
+
+    /// Says what a note says, where there is one, behind what is said already.
+    ///
+    /// # Errors
+    /// For want of memory alone.
+    pub fn noted(self, note: Option<Note>) -> Result<Contents, NoMemory>
+        ensures { IfOk result (λ c. c ≡ noted_if self note) }
+    {
+        match note {
+            Some(note) => self.with_note(note),
+            None => Ok(self),
+        }
+    }
+
+    /// Says what notes say, behind what is said already.
+    ///
+    /// # Errors
+    /// For want of memory alone.
+    pub fn with_notes(self, more: List<Note>) -> Result<Contents, NoMemory>
+        ensures { IfOk result (λ c. c ≡ noted_all self more) }
+    {
+        let Contents {
+            scope,
+            around,
+            notes,
+        } = self;
+        let mut notes = notes.into_vec();
+        notes.append(&mut more.into_vec())?;
+        Ok(Contents {
+            scope,
+            around,
             notes: List::of(notes),
         })
     }
@@ -74,10 +147,8 @@ impl Contents {
     pub fn said(self, fault: Fault) -> Result<Contents, NoMemory>
         ensures { IfOk result (λ c. c ≡ said self fault) }
     {
-        match fault.note(&self.scope.file, self.scope.chunk)? {
-            Some(note) => self.with_note(note),
-            None => Ok(self),
-        }
+        let note = fault.note(&self.scope.file, self.scope.chunk)?;
+        self.noted(note)
     }
 
     /// How a declaration came in: a second one of its name is said (N02), and one whose name is imported (N07).
