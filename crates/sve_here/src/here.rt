@@ -7,7 +7,7 @@ use sve_diag::Code;
 use sve_env::Env;
 use sve_fault::{Fault, Fuel, Halted};
 use sve_known::{Known, first_token, name_at, named, text_at, type_of, value_of};
-use sve_scope::{Scope, What};
+use sve_scope::{Enclosing, Scope, What};
 use sve_table::Table;
 use sve_tree::{ArgumentList, ScopedName, Word};
 use sve_types::{Ty, Value};
@@ -25,16 +25,19 @@ pub struct Here<'a> {
     pub chunk: u32,
     /// The words of the chunk.
     pub words: &'a [Word],
-    /// The scopes that see the expression, from the innermost outward. The expression stands in the text of the first.
-    pub chain: &'a [Scope],
+    /// The innermost scope that sees the expression, which stands in its text.
+    pub scope: &'a Scope,
+    /// The scopes around that one.
+    pub around: &'a Enclosing<Scope>,
     /// The packages that are known.
     pub packages: &'a Table<Known>,
 }
 
 impl Env for Here<'_> {
+    ghost use Rattle.std.specs.Prelude.{◌∷◌};
     ghost use Rattle.sve_here.specs.Told.{known_here};
 
-    ghost told = { λ h. known_here h.file.now h.chunk h.words.now h.chain.now h.packages.now };
+    ghost told = { λ h. known_here h.file.now h.chunk h.words.now (h.scope.now ∷ h.around.now) h.packages.now };
 
     fn file(&self) -> &Name {
         self.file
@@ -52,17 +55,14 @@ impl Env for Here<'_> {
         let Some(name) = name_at(self.words, token) else {
             return Ok(false);
         };
-        let Some(scope) = self.chain.first() else {
-            return Ok(false);
-        };
-        match scope.declared.get(name) {
+        match self.scope.declared.get(name) {
             Some(declared) => Ok(declared.at.is_before(self.file, self.chunk, token)),
             None => Ok(false),
         }
     }
 
     fn constant(&self, name: ScopedName) -> Result<Result<Value, Fault>, NoMemory> {
-        match named(self.packages, self.words, self.chain, name) {
+        match named(self.packages, self.words, self.scope, self.around, name) {
             Ok(what) => {
                 let word = name_at(self.words, name.name);
                 value_of(self.alloc, first_token(name), name.name, word, what)
@@ -72,14 +72,14 @@ impl Env for Here<'_> {
     }
 
     fn is_type(&self, name: ScopedName) -> bool {
-        match named(self.packages, self.words, self.chain, name) {
+        match named(self.packages, self.words, self.scope, self.around, name) {
             Ok(what) => is_type_name(what),
             Err(_) => false,
         }
     }
 
     fn ty(&self, name: ScopedName) -> Result<Result<&Ty, Fault>, NoMemory> {
-        match named(self.packages, self.words, self.chain, name) {
+        match named(self.packages, self.words, self.scope, self.around, name) {
             Ok(what) => Ok(type_of(first_token(name), what)),
             Err(wrong) => Ok(Err(wrong.fault()?)),
         }
@@ -91,7 +91,7 @@ impl Env for Here<'_> {
         _arguments: &ArgumentList,
         _fuel: &mut Fuel,
     ) -> Result<Result<Value, Fault>, Halted> {
-        match named(self.packages, self.words, self.chain, name) {
+        match named(self.packages, self.words, self.scope, self.around, name) {
             Ok(_) => Ok(Err(Fault::at(first_token(name), Code::C01))),
             Err(wrong) => Ok(Err(wrong.fault()?)),
         }
