@@ -8,4 +8,4 @@ mod passed;
 mod types;
 
 pub use passed::Passed;
-pub use types::with_names;
+pub use types::{with_keyword_names, with_names};

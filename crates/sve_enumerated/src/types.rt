@@ -53,15 +53,18 @@ pub fn with_names(
     ensures { IfOk result (λ p. p ≡ named_in_ref words.now ty.now passed written.now) }
 {
     match written {
-        TypeRef::Written { data_type } => in_data_type(alloc, words, data_type, ty, passed),
+        TypeRef::Written { data_type } => with_keyword_names(alloc, words, data_type, ty, passed),
         TypeRef::Named { .. } => Ok(passed),
     }
 }
 
-/// The scope behind a type that begins with a keyword.
+/// The scope behind a written type that begins with a keyword, as `with_names` has it.
+///
+/// # Errors
+/// For want of memory alone.
 #[cycle(types)]
 #[tactic(auto, unfolding(crate::specs::Types::named_in))]
-fn in_data_type(
+pub fn with_keyword_names(
     alloc: Global,
     words: &[Word],
     written: &DataType,
