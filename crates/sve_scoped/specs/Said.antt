@@ -1,15 +1,11 @@
 -- What a declaration leaves in a scope, and what is said of it (own).
-use Rattle.std.specs.Prelude.{ℕ, Bool, if◌then◌else◌, List, ◌++◌, Option, Some, None}
+use Rattle.std.specs.Prelude.{ℕ, Bool, if◌then◌else◌, List, Option, Some, None}
 use Rattle.sve_diag.specs.declared.code.Code.TheVariants.{E06}
-use Rattle.sve_diag.specs.declared.diag.Note.{Note}
 use Rattle.sve_scope.specs.declared.what.What.{What}
 use Rattle.sve_tree.specs.declared.token_word.Word.{Word}
 use Rattle.sve_known.specs.Naming.{name_at}
 use Rattle.sve_contents.specs.declared.contents.Contents.{Contents}
 use Rattle.sve_contents.specs.Reading.{declaring_in, remarked, spot_in}
-
-abbrev pub noted_all : Contents → List Note → Contents
-noted_all c notes = record c { notes = c.notes ++ notes }
 
 -- a type that is out for its place is said at the name
 abbrev pub said_out : Contents → ℕ → Option (List ℕ) → Contents

@@ -1,6 +1,6 @@
 //! Types and values where a scope's own text stands. Their nodes are not bounded here: what packages and compilation units declare counts
 //! nothing.
-ghost use Rattle.std.specs.Prelude.{◌≡◌, [], IfOk};
+ghost use Rattle.std.specs.Prelude.{◌≡◌, ◌∷◌, [], IfOk};
 ghost use Rattle.sve_type_of.specs.TypeOf.{IsTyped, declared, notes_in, referred, unpacked_over};
 ghost use Rattle.sve_type_rule.specs.Outcomes.{scalar};
 ghost use Rattle.sve_assigned.specs.Assignments.{default_value, told_of};
@@ -8,9 +8,8 @@ ghost use Rattle.sve_assigned.specs.Forms.{IsFormed, formed};
 ghost use Rattle.sve_here.specs.Told.{known_here};
 ghost use Rattle.sve_scoped.specs.Known.{told_in};
 
-use crate::endless::{ended, endless};
+use crate::unbounded::{ended, endless};
 use std::alloc::Global;
-use std::slice;
 use sve_assigned::{Assigned, Form, Formed, assigned, form_of};
 use sve_bytes::{List, NoMemory};
 use sve_contents::Contents;
@@ -23,7 +22,7 @@ use sve_type_of::{Typed, declared_type, type_of, with_unpacked};
 use sve_types::{Base, Ty, Vec_};
 
 /// What the text of a scope stands among. The text itself, as far as it was read, is in the scope's contents, whose file and chunk are
-/// those of the text that is read.
+/// those of the text that is read, and so are the scopes around it.
 #[derive(Clone, Copy)]
 pub struct Text<'a> {
     /// The packages that are known.
@@ -32,16 +31,17 @@ pub struct Text<'a> {
     pub words: &'a [Word],
 }
 
-/// What is known in the text of a scope, as far as it was read.
-fn around<'a>(alloc: Global, text: Text<'a>, contents: &'a Contents) -> Here<'a>
-    ensures { known_here result.file.now result.chunk result.words.now result.chain.now result.packages.now ≡ told_in text.entry.packages.now text.entry.words.now contents.now }
+/// What is known in the text of a scope, as far as it was read, by that scope and those around it. It takes no memory.
+pub fn around<'a>(alloc: Global, text: Text<'a>, contents: &'a Contents) -> Here<'a>
+    ensures { known_here result.file.now result.chunk result.words.now (result.scope.now ∷ result.around.now) result.packages.now ≡ told_in text.entry.packages.now text.entry.words.now contents.now }
 {
     Here {
         alloc,
         file: &contents.scope.file,
         chunk: contents.scope.chunk,
         words: text.words,
-        chain: slice::from_ref(&contents.scope),
+        scope: &contents.scope,
+        around: &contents.around,
         packages: text.packages,
     }
 }

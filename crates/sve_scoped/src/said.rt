@@ -1,49 +1,13 @@
 //! What a declaration leaves in a scope, and what is said of it.
 ghost use Rattle.std.specs.Prelude.{◌≡◌, IfOk};
-ghost use Rattle.sve_contents.specs.Reading.{noted_if};
-ghost use Rattle.sve_scoped.specs.Said.{declared_at, noted_all, out_if};
+ghost use Rattle.sve_scoped.specs.Said.{declared_at, out_if};
 
-use sve_bytes::{List, NoMemory};
+use sve_bytes::NoMemory;
 use sve_contents::Contents;
-use sve_diag::{Code, Note};
+use sve_diag::Code;
 use sve_known::name_at;
 use sve_scope::{Declared, What};
 use sve_tree::Word;
-
-/// Says what notes say, behind what is said already.
-///
-/// # Errors
-/// For want of memory alone.
-pub fn with_notes(contents: Contents, more: List<Note>) -> Result<Contents, NoMemory>
-    ensures { IfOk result (λ c. c ≡ noted_all contents more) }
-{
-    let Contents { scope, notes } = contents;
-    let mut notes = notes.into_vec();
-    notes.append(&mut more.into_vec())?;
-    Ok(Contents {
-        scope,
-        notes: List::of(notes),
-    })
-}
-
-/// Says what a note says, where there is one, behind what is said already.
-///
-/// # Errors
-/// For want of memory alone.
-pub fn with_note(contents: Contents, note: Option<Note>) -> Result<Contents, NoMemory>
-    ensures { IfOk result (λ c. c ≡ noted_if contents note) }
-{
-    let Some(note) = note else {
-        return Ok(contents);
-    };
-    let Contents { scope, notes } = contents;
-    let mut notes = notes.into_vec();
-    notes.push(note)?;
-    Ok(Contents {
-        scope,
-        notes: List::of(notes),
-    })
-}
 
 /// Says that the type of the name at a token is out for its place (E06), if it is.
 ///

@@ -6,8 +6,8 @@ use std::alloc::AllocError;
 use sve_bytes::NoMemory;
 use sve_fault::{Fuel, Halted};
 
-/// Fuel without an end: its count stands at its last value, so that nothing is over.
-pub(crate) fn endless() -> Fuel
+/// Fuel without an end: its count stands at its last value, so that nothing is over. It takes no memory.
+pub fn endless() -> Fuel
     ensures { result ≡ endless }
 {
     Fuel {
@@ -16,8 +16,11 @@ pub(crate) fn endless() -> Fuel
     }
 }
 
-/// What comes of an evaluation with such fuel.
-pub(crate) fn ended<T>(outcome: Result<T, Halted>) -> Result<T, NoMemory>
+/// What comes of an evaluation with such fuel, which is not over.
+///
+/// # Errors
+/// For want of memory alone.
+pub fn ended<T>(outcome: Result<T, Halted>) -> Result<T, NoMemory>
     requires { IsEnded outcome }
     ensures { IfOk result (λ t. outcome ≡ Ok t) }
 {
