@@ -5,7 +5,7 @@ use crate::Typing;
 use crate::items::with_items;
 use std::alloc::Global;
 use sve_bytes::{List, Name, NoMemory, Path};
-use sve_contents::Contents;
+use sve_contents::{Contents, Finished};
 use sve_diag::{Code, Note};
 use sve_facts::{BodyScope, Facts};
 use sve_known::{Known, name_at};
@@ -16,7 +16,7 @@ use sve_tree::{Design, Element, Package, Word};
 fn facts_of(alloc: Global, contents: Contents) -> Result<Facts, NoMemory>
     ensures { IfOk result (λ f. f ≡ facts_of contents) }
 {
-    let Contents { scope, notes } = contents;
+    let Finished { scope, notes } = contents.finished();
     let path = Path {
         steps: List::of(Vec::new(alloc)),
     };
