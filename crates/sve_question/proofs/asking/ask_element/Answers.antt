@@ -1,0 +1,26 @@
+-- The object answers, or it halts.
+use Rattle.std.proofs.Common.{ap, Option, Result, Err}
+use Rattle.std.proofs.lemmas.Result.{err_from_is_err_and}
+use Rattle.std.specs.Global.{Global}
+use Rattle.std.specs.declared.sync.Arc.{Arc}
+use Rattle.sve_io.specs.declared.halt.Halt.{Halt}
+use Rattle.sve_tree.specs.declared.element.Element.{Element}
+use Rattle.sve_told.specs.Told.{Sight}
+use Rattle.sve_plan.proofs.Steps.{answers, asked_in_vain}
+use Rattle.sve_look.specs.Questions.{ElementOf, Reply}
+use Rattle.sve_question.specs.Answered.{element_given}
+use Rattle.sve_question.proofs.asking.ask_element.Goals as goal
+
+pub returns-in_err-element : goal.returns-in_err-element
+returns-in_err-element g c =
+    let s : Sight Reply _ = record { tells = g.W.Look.tells; keeps = g.W.Look.keeps; halted = g.W.Look.halted; stops = g.W.Look.stops; asked = g.W.Look.asked } in
+    let r = err_from_is_err_and c.from_residual.result c.from_residual.ensures.1 in
+    let e = c.in_err-element.ensures in
+    let failed : Result (Option (Arc Element Global)) Halt = Err c.in_err-element.field-0.0 in
+    asked_in_vain s g.met.W.Look.keeps_itself g.met.W.Look.keeps_on c.args.fuel.now (ElementOf c.args.file.now c.args.chunk) _ failed (element_given c.from_residual.result) r.0 (ap element_given r.1) r.2 e.tells e.keeps e.halted e.stopped
+
+pub returns : goal.returns
+returns g c =
+    let s : Sight Reply _ = record { tells = g.W.Look.tells; keeps = g.W.Look.keeps; halted = g.W.Look.halted; stops = g.W.Look.stops; asked = g.W.Look.asked } in
+    let e = c.in_ok-element.ensures in
+    answers s g.met.W.Look.keeps_itself g.met.W.Look.keeps_on c.args.fuel.now (ElementOf c.args.file.now c.args.chunk) _ c.requires e.tells e.keeps e.found e.asked e.not_halted e.not_stopped
