@@ -19,11 +19,6 @@ use Rattle.sve_tree.specs.declared.declaration.ImportItem.TheVariants as is_impo
 use Rattle.sve_tree.specs.declared.declaration.ParameterAssignment.{ParameterAssignment}
 use Rattle.sve_tree.specs.declared.declaration.Parameters.{Parameters}
 use Rattle.sve_tree.specs.declared.declaration.Typedef.{Typedef}
-use Rattle.sve_tree.specs.declared.element.Package.{Package}
-use Rattle.sve_tree.specs.declared.element.UnitItem.{UnitItem}
-use Rattle.sve_tree.specs.declared.element.UnitItem.TheVariants as is_item
-use Rattle.sve_tree.specs.declared.statement.FunctionResult.{FunctionResult}
-use Rattle.sve_tree.specs.declared.statement.FunctionResult.TheVariants as is_result
 use Rattle.sve_tree.specs.declared.token_word.Word.{Word}
 use Rattle.sve_tree.specs.declared.word.PackageScope.{PackageScope}
 use Rattle.sve_tree.specs.declared.word.ScopedName.{ScopedName}
@@ -36,39 +31,32 @@ use Rattle.sve_scope.specs.declared.spot.Spot.{Spot}
 use Rattle.sve_scope.specs.declared.what.What.{What}
 use Rattle.sve_scope.specs.declared.what.What.TheVariants as is_what
 use Rattle.sve_scope.specs.Imports.{WildcardImport}
-use Rattle.sve_scope.specs.Lookup.{Meaning, local, imported, two, nothing, candidate, candidates, from_candidates, in_declared, in_imports, in_scope, looked_up, or_else, seen_declaration, seen_import}
-use Rattle.sve_scope.specs.Scopes.{empty_scope, import_name, import_of, imported_as, importing, is_declared_before, wildcard_name}
+use Rattle.sve_scope.specs.Lookup.{Meaning, local, imported, two, nothing, candidate, candidates, from_candidates, in_declared, in_imports, in_scope, in_scopes, looked_up, or_else, seen_declaration, seen_import}
+use Rattle.sve_scope.specs.Scopes.{import_name, import_of, imported_as, importing, is_declared_before, wildcard_name}
 use Rattle.sve_scope.specs.Spots.{spot, stands_before}
 use Rattle.sve_known.specs.declared.known.Known.{Known}
 use Rattle.sve_known.specs.Packages.{member, package_name}
 use Rattle.sve_known.specs.Naming.{name_at, named_fault, of_known, of_member, of_meaning, of_name, of_name_in, of_package, of_plain, of_scoped, text_at}
 use Rattle.sve_known.specs.Constants.{first_token, type_of, value_of}
-use Rattle.sve_heading.specs.declared.heading.Heading.{Heading}
-use Rattle.sve_heading.specs.Items.{headings}
 use Rattle.sve_contents.specs.declared.contents.Contents.{Contents}
-use Rattle.sve_contents.specs.Reading.{empty_contents, said, spot_in, with_scope}
+use Rattle.sve_contents.specs.Reading.{noted_all, said, spot_in, with_scope}
 use Rattle.sve_contents.specs.Imports.{importing_all_in, with_all, with_found, with_import_entry, with_item as import_item, with_items as import_items, with_name, with_package}
 use Rattle.sve_here.specs.Told.{declares_before, names_type}
 use Rattle.sve_assigned.specs.declared.form.Form.{Form}
 use Rattle.sve_assigned.specs.declared.form.Form.TheVariants as is_form
-use Rattle.sve_assigned.specs.Assignments.{is_text}
 use Rattle.sve_assigned.specs.Forms.{Formation, formed}
 use Rattle.sve_type_rule.specs.Outcomes.{Outcome}
-use Rattle.sve_type_of.specs.TypeOf.{declared, notes_in, referred, unpacked_over}
+use Rattle.sve_type_of.specs.TypeOf.{notes_in, referred, unpacked_over}
 use Rattle.sve_enumerated.specs.declared.passed.Passed.{Passed}
 use Rattle.sve_enumerated.specs.Passing.{passed_to}
 use Rattle.sve_enumerated.specs.Types.{named_in_ref}
-use Rattle.sve_package.specs.Opening.{function_at, is_ahead, opened, with_heading, with_name_if}
-use Rattle.sve_package.specs.Packages.{facts_of, found_in, package_in, with_item}
 use Rattle.sve_scoped.specs.Known.{told_in}
-use Rattle.sve_scoped.specs.Said.{noted_all, out_if}
+use Rattle.sve_scoped.specs.Said.{out_if}
 use Rattle.sve_declare.specs.declared.parameters.Found.{Found}
-use Rattle.sve_declare.specs.Alike.{FactsFollow, TellAlike, tells}
-use Rattle.sve_declare.specs.Functions.{function_name, names_of_result, result_over, with_result_type}
+use Rattle.sve_declare.specs.Alike.{TellAlike, tells}
 use Rattle.sve_declare.specs.Parameters.{behind_uses, found_in as parameter_found, kept, names_declared, note_in, parameter_after, parameters_behind, parameters_over, said_of, separator, with_parameters, with_value}
-use Rattle.sve_declare.specs.Readings.{readings}
 use Rattle.sve_declare.specs.Typedefs.{named_over, with_named_type, with_type, with_typedef}
-use Rattle.sve_declare.proofs.Kept.{AllNamed, AreNamed, Holds, Named, OneNamed, of_declared, of_note, of_out_if, of_passed, of_ref, of_said, with_one}
+use Rattle.sve_declare.proofs.Holding.{AllNamed, AreNamed, Holds, Named, OneNamed, of_declared, of_note, of_out_if, of_passed, of_ref, of_said, with_one}
 
 -- ---- what a package tells
 
@@ -118,32 +106,36 @@ module _ (ws : List Word) where
   Means_named (two p q) = Unit {0}
   Means_named nothing = Unit {0}
 
-  of_candidates : (n : List ℕ) (found : List WildcardImport) → AllByRecursion (AllNamed ws) found → Means_named (from_candidates n 0 found)
-  of_candidates n [] h = tt
-  of_candidates n (w ∷ []) h = h.0
-  of_candidates n (w ∷ v ∷ found) h = tt
+  of_candidates : (index : ℕ) (n : List ℕ) (found : List WildcardImport) → AllByRecursion (AllNamed ws) found → Means_named (from_candidates n index found)
+  of_candidates index n [] h = tt
+  of_candidates index n (w ∷ []) h = h.0
+  of_candidates index n (w ∷ v ∷ found) h = tt
 
-  of_imports : (place : Spot) (n : List ℕ) (s : Scope) → AreNamed ws s → (x : Option Explicit) → Found_is (OneNamed ws) x → Means_named (in_imports place n 0 s x)
-  of_imports place n s h None k = of_candidates n (candidates place n s.wild) (of_kept (AllNamed ws) (λ w. is_some (candidate place n w)) s.wild h.1)
-  of_imports place n s h (Some i) k = k
+  of_imports : (place : Spot) (n : List ℕ) (index : ℕ) (s : Scope) → AreNamed ws s → (x : Option Explicit) → Found_is (OneNamed ws) x → Means_named (in_imports place n index s x)
+  of_imports place n index s h None k = of_candidates index n (candidates place n s.wild) (of_kept (AllNamed ws) (λ w. is_some (candidate place n w)) s.wild h.1)
+  of_imports place n index s h (Some i) k = k
 
   of_one : (place : Spot) (n : List ℕ) (s : Scope) → AreNamed ws s → Found_is (OneNamed ws) (seen_import place n s)
   of_one place n s h = of_filtered (OneNamed ws) (λ i. stands_before i.at place) (import_of n s.explicit) (of_found (OneNamed ws) (λ i. pointwise nat_eq n (import_name i)) s.explicit h.0)
 
-  of_scope : (place : Spot) (n : List ℕ) (s : Scope) → AreNamed ws s → (x : Option Declared) → Means_named (in_declared place n 0 s x)
-  of_scope place n s h (Some d) = tt
-  of_scope place n s h None = of_imports place n s h (seen_import place n s) (of_one place n s h)
+  of_scope : (place : Spot) (n : List ℕ) (index : ℕ) (s : Scope) → AreNamed ws s → (x : Option Declared) → Means_named (in_declared place n index s x)
+  of_scope place n index s h (Some d) = tt
+  of_scope place n index s h None = of_imports place n index s h (seen_import place n s) (of_one place n s h)
 
-  of_last : (place : Spot) (n : List ℕ) (m : Meaning) → Means_named m → Means_named (or_else place n m nothing)
-  of_last place n (local d) h = h
-  of_last place n (imported p m through) h = h
-  of_last place n (two p q) h = h
-  of_last place n nothing h = h
+  of_either : (place : Spot) (n : List ℕ) (m rest : Meaning) → Means_named m → Means_named rest → Means_named (or_else place n m rest)
+  of_either place n (local d) rest h k = h
+  of_either place n (imported p m through) rest h k = h
+  of_either place n (two p q) rest h k = h
+  of_either place n nothing rest h k = k
 
-  means_named : (s : Scope) → AreNamed ws s → (n : List ℕ) (token : ℕ) → Means_named (looked_up (s ∷ []) n token)
-  means_named s h n token =
-      let place : Spot = spot s.file s.chunk token in
-      of_last place n (in_scope place n 0 s) (of_scope place n s h (seen_declaration place n s))
+  of_scopes : (place : Spot) (n : List ℕ) (index : ℕ) (ss : List Scope) → AllByRecursion (AreNamed ws) ss → Means_named (in_scopes place n index ss)
+  of_scopes place n index [] h = tt
+  of_scopes place n index (s ∷ ss) h =
+      of_either place n (in_scope place n index s) (in_scopes place n (index + 1) ss)
+      (of_scope place n index s h.0 (seen_declaration place n s)) (of_scopes place n (index + 1) ss h.1)
+
+  means_named : (s : Scope) (ss : List Scope) → AllByRecursion (AreNamed ws) (s ∷ ss) → (n : List ℕ) (token : ℕ) → Means_named (looked_up (s ∷ ss) n token)
+  means_named s ss h n token = of_scopes (spot s.file s.chunk token) n 0 (s ∷ ss) h
 
 module _ (ws : List Word) (ps qs : List Known) (alike : TellAlike ws ps qs) where
   -- ---- what a name stands for
@@ -157,34 +149,34 @@ module _ (ws : List Word) (ps qs : List Known) (alike : TellAlike ws ps qs) wher
   meaning_alike token n (two p q) h = refl
   meaning_alike token n nothing h = refl
 
-  plain_alike : (s : Scope) → AreNamed ws s → (token : ℕ) (n : Option (List ℕ)) → of_plain ps (s ∷ []) token n ≡ of_plain qs (s ∷ []) token n
-  plain_alike s h token None = refl
-  plain_alike s h token (Some n) = meaning_alike token n (looked_up (s ∷ []) n token) (means_named ws s h n token)
+  plain_alike : (s : Scope) (ss : List Scope) → AllByRecursion (AreNamed ws) (s ∷ ss) → (token : ℕ) (n : Option (List ℕ)) → of_plain ps (s ∷ ss) token n ≡ of_plain qs (s ∷ ss) token n
+  plain_alike s ss h token None = refl
+  plain_alike s ss h token (Some n) = meaning_alike token n (looked_up (s ∷ ss) n token) (means_named ws s ss h n token)
 
   scoped_alike : (at : ℕ) (p : Option (List ℕ)) → name_at ws at ≡ p → (token : ℕ) (n : Option (List ℕ)) → of_scoped ps at p token n ≡ of_scoped qs at p token n
   scoped_alike at None e token n = refl
   scoped_alike at (Some p) e token None = refl
   scoped_alike at (Some p) e token (Some n) = known_alike at p (at, e) token n
 
-  name_in_alike : (s : Scope) → AreNamed ws s → (scope : Option PackageScope) (token : ℕ) → of_name_in ps ws (s ∷ []) scope token ≡ of_name_in qs ws (s ∷ []) scope token
-  name_in_alike s h None token = plain_alike s h token (name_at ws token)
-  name_in_alike s h (Some scope) token = scoped_alike scope.name (name_at ws scope.name) refl token (name_at ws token)
+  name_in_alike : (s : Scope) (ss : List Scope) → AllByRecursion (AreNamed ws) (s ∷ ss) → (scope : Option PackageScope) (token : ℕ) → of_name_in ps ws (s ∷ ss) scope token ≡ of_name_in qs ws (s ∷ ss) scope token
+  name_in_alike s ss h None token = plain_alike s ss h token (name_at ws token)
+  name_in_alike s ss h (Some scope) token = scoped_alike scope.name (name_at ws scope.name) refl token (name_at ws token)
 
-  name_alike : (s : Scope) → AreNamed ws s → (n : ScopedName) → of_name ps ws (s ∷ []) n ≡ of_name qs ws (s ∷ []) n
-  name_alike s h n = name_in_alike s h n.scope n.name
+  pub name_alike : (s : Scope) (ss : List Scope) → AllByRecursion (AreNamed ws) (s ∷ ss) → (n : ScopedName) → of_name ps ws (s ∷ ss) n ≡ of_name qs ws (s ∷ ss) n
+  name_alike s ss h n = name_in_alike s ss h n.scope n.name
 
   -- ---- what is known at a place
 
-  known_in : (c : Contents) → Holds ws c → told_in ps ws c ≡ told_in qs ws c
+  pub known_in : (c : Contents) → Holds ws c → told_in ps ws c ≡ told_in qs ws c
   known_in c h = λ i. record {
     file = c.scope.file;
     chunk = c.scope.chunk;
     text = text_at ws;
-    declared_before = λ token. declares_before (spot c.scope.file c.scope.chunk token) (name_at ws token) (c.scope ∷ []);
-    constant = λ n. after (name_alike c.scope h n i) (value_of (first_token n) n.name (name_at ws n.name));
-    is_type = λ n. names_type (name_alike c.scope h n i);
-    ty = λ n. after (name_alike c.scope h n i) (type_of (first_token n));
-    call = λ n arguments. after (name_alike c.scope h n i) (λ what. Err (fault_at (first_token n) C01));
+    declared_before = λ token. declares_before (spot c.scope.file c.scope.chunk token) (name_at ws token) (c.scope ∷ c.around);
+    constant = λ n. after (name_alike c.scope c.around h n i) (value_of (first_token n) n.name (name_at ws n.name));
+    is_type = λ n. names_type (name_alike c.scope c.around h n i);
+    ty = λ n. after (name_alike c.scope c.around h n i) (type_of (first_token n));
+    call = λ n arguments. after (name_alike c.scope c.around h n i) (λ what. Err (fault_at (first_token n) C01));
     steps = λ n arguments. 0;
   }
 
@@ -203,7 +195,7 @@ module _ (ws : List Word) (ps qs : List Known) (alike : TellAlike ws ps qs) wher
   import_alike c (is_import.Name scope token) = name_import_alike c scope.name (name_at ws scope.name) refl token (name_at ws token)
   import_alike c (is_import.All scope star) = all_import_alike c scope.name star (name_at ws scope.name) refl
 
-  imports_alike : (xs : List ImportItem) (c : Contents) → import_items ps ws c xs ≡ import_items qs ws c xs
+  pub imports_alike : (xs : List ImportItem) (c : Contents) → import_items ps ws c xs ≡ import_items qs ws c xs
   imports_alike xs c = ap (λ (f : Contents → ImportItem → Contents). fold f c xs) (λ i d x. import_alike d x i)
 
   entry_holds : (c : Contents) (token : ℕ) (n : List ℕ) (e : Entered) → Holds ws c → Holds ws (with_import_entry c token n e)
@@ -211,8 +203,12 @@ module _ (ws : List Word) (ps qs : List Known) (alike : TellAlike ws ps qs) wher
   entry_holds c token n Again h = h
   entry_holds c token n Clashing h = h
 
-  importing_holds : (c : Contents) (x : Explicit) → Named ws x.from → Holds ws c → AreNamed ws (importing c.scope x)
-  importing_holds c x p h = elim (is_declared_before c.scope x) as (λ b. AreNamed ws (cond b c.scope (record c.scope { explicit = with_table_item import_name c.scope.explicit x }))) [ true ↦ h | false ↦ (with_one (OneNamed ws) import_name c.scope.explicit x h.0 p, h.1) ]
+  importing_holds : (c : Contents) (x : Explicit) → Named ws x.from → Holds ws c → Holds ws (with_scope c (importing c.scope x))
+  importing_holds c x p h =
+      elim (is_declared_before c.scope x) as (λ b. Holds ws (with_scope c (cond b c.scope (record c.scope { explicit = with_table_item import_name c.scope.explicit x })))) [
+        | true ↦ h
+        | false ↦ ((with_one (OneNamed ws) import_name c.scope.explicit x h.0.0 p, h.0.1), h.1)
+      ]
 
   found_holds : (c : Contents) (token : ℕ) (p n : List ℕ) (r : Result What Fault) → Named ws p → Holds ws c → Holds ws (with_found c token p n r)
   found_holds c token p n (Err fault) e h = of_said ws c fault h
@@ -227,7 +223,7 @@ module _ (ws : List Word) (ps qs : List Known) (alike : TellAlike ws ps qs) wher
 
   package_holds : (c : Contents) (at star : ℕ) (p : List ℕ) (x : Option Known) → Named ws p → Holds ws c → Holds ws (with_package c at star p x)
   package_holds c at star p None e h = of_said ws c (named_fault at N04 p) h
-  package_holds c at star p (Some k) e h = (h.0, with_one (AllNamed ws) wildcard_name c.scope.wild (record { from = p; names = arc_value k.names; at = spot_in c star }) h.1 e)
+  package_holds c at star p (Some k) e h = ((h.0.0, with_one (AllNamed ws) wildcard_name c.scope.wild (record { from = p; names = arc_value k.names; at = spot_in c star }) h.0.1 e), h.1)
 
   all_import_holds : (c : Contents) (at star : ℕ) (p : Option (List ℕ)) → name_at ws at ≡ p → Holds ws c → Holds ws (with_all qs c at star p)
   all_import_holds c at star None e h = of_said ws c (fault_at at N04) h
@@ -237,7 +233,7 @@ module _ (ws : List Word) (ps qs : List Known) (alike : TellAlike ws ps qs) wher
   import_holds c (is_import.Name scope token) h = name_import_holds c scope.name (name_at ws scope.name) refl token (name_at ws token) h
   import_holds c (is_import.All scope star) h = all_import_holds c scope.name star (name_at ws scope.name) refl h
 
-  imports_hold : (xs : List ImportItem) (c : Contents) → Holds ws c → Holds ws (import_items qs ws c xs)
+  pub imports_hold : (xs : List ImportItem) (c : Contents) → Holds ws c → Holds ws (import_items qs ws c xs)
   imports_hold [] c h = h
   imports_hold (x ∷ xs) c h = imports_hold xs (import_item qs ws c x) (import_holds c x h)
 
@@ -291,14 +287,14 @@ module _ (ws : List Word) (ps qs : List Known) (alike : TellAlike ws ps qs) wher
   in_front_holds : (c : Contents) (w : Parameters) (m : Told) (f : Formation) → Holds ws c → Holds ws (in_front c w m f).contents
   in_front_holds c w m f h = names_hold f.form (record { contents = noted_all c (notes_in m f.faults); at = w.keyword.token }) w.data_type h
 
-  with_parameters_alike : (c : Contents) (w : Parameters) → Holds ws c → with_parameters (told_in ps ws) ws c w ≡ with_parameters (told_in qs ws) ws c w
+  pub with_parameters_alike : (c : Contents) (w : Parameters) → Holds ws c → with_parameters (told_in ps ws) ws c w ≡ with_parameters (told_in qs ws) ws c w
   with_parameters_alike c w h =
       let m : Told = told_in qs ws c in
       let f : Formation = formed m w.data_type in
       ap (λ (k : Told). parameters_over (told_in ps ws) ws c w k (formed k w.data_type)) (known_in c h)
       ∙ ap (λ (q : Passed). q.contents) (parameters_alike f.form f.is_array w 0 (in_front c w m f) w.assignments.items.items (in_front_holds c w m f h))
 
-  with_parameters_hold : (c : Contents) (w : Parameters) → Holds ws c → Holds ws (with_parameters (told_in qs ws) ws c w)
+  pub with_parameters_hold : (c : Contents) (w : Parameters) → Holds ws c → Holds ws (with_parameters (told_in qs ws) ws c w)
   with_parameters_hold c w h =
       let m : Told = told_in qs ws c in
       let f : Formation = formed m w.data_type in
@@ -321,87 +317,17 @@ module _ (ws : List Word) (ps qs : List Known) (alike : TellAlike ws ps qs) wher
   behind_names_holds : (c : Contents) (w : Typedef) (m : Told) (o : Outcome) → Holds ws c → Holds ws (behind_names c w m o).contents
   behind_names_holds c w m o h = of_ref ws o.ty (record { contents = noted_all c (notes_in m o.faults); at = w.keyword }) w.data_type h
 
-  with_typedef_alike : (c : Contents) (w : Typedef) → Holds ws c → with_typedef (told_in ps ws) ws c w ≡ with_typedef (told_in qs ws) ws c w
+  pub with_typedef_alike : (c : Contents) (w : Typedef) → Holds ws c → with_typedef (told_in ps ws) ws c w ≡ with_typedef (told_in qs ws) ws c w
   with_typedef_alike c w h =
       let m : Told = told_in qs ws c in
       let o : Outcome = referred m w.data_type [] in
       ap (λ (k : Told). with_type (told_in ps ws) ws c w k (referred k w.data_type [])) (known_in c h)
       ∙ named_type_alike (behind_names c w m o) o.ty w (behind_names_holds c w m o h)
 
-  with_typedef_holds : (c : Contents) (w : Typedef) → Holds ws c → Holds ws (with_typedef (told_in qs ws) ws c w)
+  pub with_typedef_holds : (c : Contents) (w : Typedef) → Holds ws c → Holds ws (with_typedef (told_in qs ws) ws c w)
   with_typedef_holds c w h =
       let m : Told = told_in qs ws c in
       let o : Outcome = referred m w.data_type [] in
       let p : Passed = behind_names c w m o in
       let k : Told = told_in qs ws p.contents in
       named_type_holds p w k (unpacked_over k o.ty w.declarator.dimensions.items) (behind_names_holds c w m o h)
-
-  -- ---- functions
-
-  result_alike : (c : Contents) (keyword : ℕ) (r : FunctionResult) → Holds ws c → with_result_type (told_in ps ws) ws c keyword r ≡ with_result_type (told_in qs ws) ws c keyword r
-  result_alike c keyword (is_result.Void void name) h = refl
-  result_alike c keyword (is_result.Typed typed) h = ap (λ (m : Told). result_over ws c keyword typed m (declared m typed.data_type)) (known_in c h)
-
-  result_names_hold : (t : types.DataType) (p : Passed) (d : DeclaredType) → Holds ws p.contents → Holds ws (names_of_result ws t p d).contents
-  unfolding names_of_result
-  result_names_hold t p (is_declared.Explicit d) h = of_ref ws t p d h
-  result_names_hold t p (is_declared.Implicit sign dimensions) h = h
-
-  function_name_holds : (p : Passed) (token : ℕ) (t : types.DataType) → Holds ws p.contents → Holds ws (function_name ws p token t)
-  unfolding function_name
-  function_name_holds p token t h =
-      let c : Contents = (passed_to ws p token).contents in
-      of_declared ws (out_if ws c token (is_text t)) token (is_what.Function (Some t)) token (of_out_if ws c token (is_text t) (of_passed ws p token h))
-
-  result_holds : (c : Contents) (keyword : ℕ) (r : FunctionResult) → Holds ws c → Holds ws (with_result_type (told_in qs ws) ws c keyword r)
-  result_holds c keyword (is_result.Void void name) h = of_declared ws c name (is_what.Function None) name h
-  result_holds c keyword (is_result.Typed typed) h =
-      let m : Told = told_in qs ws c in
-      let o : Outcome = declared m typed.data_type in
-      let p : Passed = record { contents = noted_all c (notes_in m o.faults); at = keyword } in
-      function_name_holds (names_of_result ws o.ty p typed.data_type) typed.declarator.name o.ty (result_names_hold o.ty p typed.data_type h)
-
-  -- ---- items
-
-  item_alike : (c : Contents) (x : UnitItem) → Holds ws c → with_item readings ps ws c x ≡ with_item readings qs ws c x
-  item_alike c (is_item.Empty semicolon) h = refl
-  item_alike c (is_item.Import declaration) h = imports_alike declaration.value.items.items.items c
-  item_alike c (is_item.Parameters declaration) h = with_parameters_alike c declaration.value h
-  item_alike c (is_item.Typedef declaration) h = with_typedef_alike c declaration.value h
-  item_alike c (is_item.Function function) h = result_alike c function.value.keyword function.value.result_type h
-
-  item_holds : (c : Contents) (x : UnitItem) → Holds ws c → Holds ws (with_item readings qs ws c x)
-  item_holds c (is_item.Empty semicolon) h = h
-  item_holds c (is_item.Import declaration) h = imports_hold declaration.value.items.items.items c h
-  item_holds c (is_item.Parameters declaration) h = with_parameters_hold c declaration.value h
-  item_holds c (is_item.Typedef declaration) h = with_typedef_holds c declaration.value h
-  item_holds c (is_item.Function function) h = result_holds c function.value.keyword function.value.result_type h
-
-  items_alike : (xs : List UnitItem) (c : Contents) → Holds ws c → fold (with_item readings ps ws) c xs ≡ fold (with_item readings qs ws) c xs
-  items_alike [] c h = refl
-  items_alike (x ∷ xs) c h =
-      ap (λ (d : Contents). fold (with_item readings ps ws) d xs) (item_alike c x h)
-      ∙ items_alike xs (with_item readings qs ws c x) (item_holds c x h)
-
-  -- ---- functions that are seen ahead
-
-  heading_holds : (c : Contents) (names : List (List ℕ)) (h : Heading) (n : Option (List ℕ)) → Holds ws c → Holds ws (with_name_if (record { contents = c; names = names }) h n).contents
-  heading_holds c names h None k = k
-  heading_holds c names h (Some n) k = elim (is_ahead (record { contents = c; names = names }) h n) as (λ b. Holds ws (cond b (function_at c h.token n) c)) [ true ↦ k | false ↦ k ]
-
-  headings_hold : (hs : List Heading) (c : Contents) (names : List (List ℕ)) → Holds ws c → Holds ws (fold (with_heading ws) (record { contents = c; names = names }) hs).contents
-  headings_hold [] c names k = k
-  headings_hold (h ∷ hs) c names k =
-      headings_hold hs (with_heading ws (record { contents = c; names = names }) h).contents (with_heading ws (record { contents = c; names = names }) h).names (heading_holds c names h (name_at ws h.token) k)
-
-  -- ---- a package
-
-  found_alike : (file : List ℕ) (chunk : ℕ) (unit : Option Package) → found_in readings ps file chunk ws unit ≡ found_in readings qs file chunk ws unit
-  found_alike file chunk None = refl
-  found_alike file chunk (Some unit) =
-      let c : Contents = empty_contents (empty_scope file chunk) in
-      let xs : List UnitItem = unit.items.items in
-      ap (λ (d : Contents). facts_of d) (items_alike xs (opened ws c xs) (headings_hold (headings xs) c [] (tt, tt)))
-
-pub facts_alike : FactsFollow
-facts_alike ps qs file chunk e alike = found_alike e.words.items ps qs alike file chunk (package_in e.design)

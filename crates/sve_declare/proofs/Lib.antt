@@ -1,3 +1,3 @@
 pub mod Loops
-pub mod Kept
+pub mod Holding
 pub mod Alike

@@ -1,15 +1,12 @@
--- On what the facts of a package depend (own): on its text, and on what the packages tell whose names stand in it.
+-- What packages tell by the names that stand in a text (own).
 use Rattle.std.specs.Prelude.{◌≡◌, ℕ, List, Option, Some, option_map}
 use Rattle.std.specs.Arc.{arc_value}
 use Rattle.sve_table.specs.Tables.{item_of}
 use Rattle.sve_facts.specs.declared.facts.Facts.{Facts}
-use Rattle.sve_tree.specs.declared.element.Element.{Element}
 use Rattle.sve_tree.specs.declared.token_word.Word.{Word}
 use Rattle.sve_known.specs.declared.known.Known.{Known}
 use Rattle.sve_known.specs.Naming.{name_at}
 use Rattle.sve_known.specs.Packages.{package_name}
-use Rattle.sve_package.specs.Packages.{package_facts}
-use Rattle.sve_declare.specs.Readings.{readings}
 
 -- what a package tells: what is found of it, and the names that it declares
 abbrev pub tells : Known → Facts × List (List ℕ)
@@ -21,6 +18,3 @@ told_by p ps = option_map (λ k. tells k) (item_of package_name p ps)
 -- by each name that stands in a text two lists of packages tell the same, wherever it lies in memory
 abbrev pub TellAlike : List Word → List Known → List Known → Type 0
 TellAlike ws ps qs = (token : ℕ) (p : List ℕ) → name_at ws token ≡ Some p → told_by p ps ≡ told_by p qs
-
-abbrev pub FactsFollow : Type 0
-FactsFollow = (ps qs : List Known) (file : List ℕ) (chunk : ℕ) (e : Element) → TellAlike e.words.items ps qs → package_facts readings ps file chunk e ≡ package_facts readings qs file chunk e

@@ -14,7 +14,7 @@ use Rattle.sve_type_of.specs.TypeOf.{notes_in, unpacked_over}
 use Rattle.sve_scope.specs.declared.what.Constant.{Constant}
 use Rattle.sve_scope.specs.declared.what.What.TheVariants as is_what
 use Rattle.sve_contents.specs.declared.contents.Contents.{Contents}
-use Rattle.sve_contents.specs.Reading.{noted_if}
+use Rattle.sve_contents.specs.Reading.{noted_all, noted_if}
 use Rattle.sve_enumerated.specs.declared.passed.Passed.{Passed}
 use Rattle.sve_enumerated.specs.Passing.{passed_to}
 use Rattle.sve_enumerated.specs.Types.{named_in_ref}
@@ -24,7 +24,7 @@ use Rattle.sve_assigned.specs.declared.form.Form.TheVariants as is_form
 use Rattle.sve_assigned.specs.Assignments.{default_value, told_of}
 use Rattle.sve_assigned.specs.Forms.{Formation, formed}
 use Rattle.sve_declare.specs.declared.parameters.Found.{Found}
-use Rattle.sve_scoped.specs.Said.{declared_at, noted_all, out_if}
+use Rattle.sve_scoped.specs.Said.{declared_at, out_if}
 
 -- ---- what a parameter stands for
 

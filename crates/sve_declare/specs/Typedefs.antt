@@ -8,10 +8,11 @@ use Rattle.sve_type_rule.specs.Outcomes.{Outcome}
 use Rattle.sve_type_of.specs.TypeOf.{notes_in, referred, unpacked_over}
 use Rattle.sve_scope.specs.declared.what.What.TheVariants as is_what
 use Rattle.sve_contents.specs.declared.contents.Contents.{Contents}
+use Rattle.sve_contents.specs.Reading.{noted_all}
 use Rattle.sve_enumerated.specs.declared.passed.Passed.{Passed}
 use Rattle.sve_enumerated.specs.Passing.{passed_to}
 use Rattle.sve_enumerated.specs.Types.{named_in_ref}
-use Rattle.sve_scoped.specs.Said.{declared_at, noted_all}
+use Rattle.sve_scoped.specs.Said.{declared_at}
 
 abbrev pub type_name : List Word → Contents → ℕ → DataType → ℕ → Contents
 type_name ws c token ty from = declared_at ws c token (is_what.TypeName ty) from

@@ -1,12 +1,9 @@
-//! What parameters, types and functions declare in the scope of a package or of a compilation unit: their types, their values, and what
-//! there is to say of them (IEEE 1800-2017, 6.18 to 6.20, 13.4 and clause 26).
+//! What parameters and types declare in a scope whose text is read: their types, their values, the names of their enumerations, and what
+//! there is to say of them (IEEE 1800-2017, 6.18 to 6.20).
 #![tactic(auto)]
 
-mod functions;
-mod laws;
 mod parameters;
 mod typedefs;
-mod typing;
 
-pub use laws::facts_follow;
-pub use typing::Constants;
+pub use parameters::{Meant, kept, names_declared, separator, with_parameters};
+pub use typedefs::with_typedef;

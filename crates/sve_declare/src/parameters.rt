@@ -10,9 +10,7 @@ use sve_contents::Contents;
 use sve_diag::Note;
 use sve_enumerated::{Passed, with_names};
 use sve_scope::{Constant, SharedType, What};
-use sve_scoped::{
-    Text, assigned_in, declared_at, dimension_notes, formed_in, out_if, with_note, with_notes,
-};
+use sve_scoped::{Text, assigned_in, declared_at, dimension_notes, formed_in, out_if};
 use sve_tree::{DeclaredType, ParameterAssignment, Parameters, Word};
 
 /// What is found of a parameter before it is declared.
@@ -37,17 +35,21 @@ fn form_type(alloc: Global, form: &Form) -> Result<Option<SharedType>, NoMemory>
     }
 }
 
-/// What a parameter stands for.
+/// What a parameter stands for, and what there is to say of it.
 #[derive(Drop)]
-pub(crate) struct Meant {
+pub struct Meant {
     /// What it stands for.
-    pub(crate) constant: Constant,
+    pub constant: Constant,
     /// What there is to say of its value.
-    pub(crate) note: Option<Note>,
+    pub note: Option<Note>,
 }
 
-/// What a parameter stands for: its type and its value, or the type that its declaration tells.
-fn kept(
+/// What a parameter stands for (IEEE 1800-2017, 6.20): its type and its value, or only the type that its declaration tells, where it has no
+/// value or its type is out.
+///
+/// # Errors
+/// For want of memory alone.
+pub fn kept(
     alloc: Global,
     form: &Form,
     is_out: bool,
@@ -111,16 +113,16 @@ fn with_value(
         value,
     } = found;
     let contents = out_if(words, contents, token, is_out)?;
-    let contents = with_notes(contents, notes)?;
+    let contents = contents.with_notes(notes)?;
     let Meant { constant, note } = kept(alloc, form, is_out, value)?;
-    let contents = with_note(contents, note)?;
+    let contents = contents.noted(note)?;
     let Passed { contents, at } = Passed { contents, at }.to(words, token)?.to(words, from)?;
     let contents = declared_at(words, contents, token, What::LocalParameter(constant), from)?;
     Ok(Passed { contents, at })
 }
 
-/// The token behind the parameter at a place of a declaration.
-fn separator(written: &Parameters, place: usize) -> u32
+/// The token behind the parameter at a place of a declaration, counted from 0: the parameter is seen from there on. It takes no memory.
+pub fn separator(written: &Parameters, place: usize) -> u32
     ensures { result ≡ separator written.now place }
 {
     match written.assignments.separators.get(place) {
@@ -191,9 +193,12 @@ fn all_parameters(
     Ok(passed)
 }
 
-/// The names that the type of a declaration declares.
+/// The names that the type of a declaration of parameters declares, which come in front of them (6.19).
+///
+/// # Errors
+/// For want of memory alone.
 #[tactic(auto, unfolding(crate::specs::Parameters::names_declared))]
-fn names_declared(
+pub fn names_declared(
     alloc: Global,
     words: &[Word],
     form: &Form,
@@ -212,8 +217,14 @@ fn names_declared(
     }
 }
 
-/// What a declaration of parameters leaves (IEEE 1800-2017, 6.20): in a package and in a compilation unit none can be overridden.
-pub(crate) fn with_parameters(
+/// What a declaration of parameters leaves in a scope in which none can be overridden (IEEE 1800-2017, 6.20), as a package, a compilation
+/// unit, a generate block, a function or a block of statements: the names of the enumeration that their type may be, then one parameter
+/// after another, each over those before it. Unpacked dimensions are out for a parameter (E06), and what there is to say of its type and
+/// of its value is said behind that.
+///
+/// # Errors
+/// For want of memory alone.
+pub fn with_parameters(
     alloc: Global,
     text: Text<'_>,
     contents: Contents,
@@ -226,7 +237,7 @@ pub(crate) fn with_parameters(
         is_array,
         notes,
     } = formed_in(alloc, text, &contents, &written.data_type)?;
-    let contents = with_notes(contents, notes)?;
+    let contents = contents.with_notes(notes)?;
     let at = written.keyword.token;
     let passed = Passed { contents, at };
     let passed = names_declared(alloc, text.words, &form, passed, &written.data_type)?;

@@ -8,7 +8,7 @@ use sve_bytes::NoMemory;
 use sve_contents::Contents;
 use sve_enumerated::{Passed, with_names};
 use sve_scope::{SharedType, What};
-use sve_scoped::{Text, declared_at, type_in, unpacked_in, with_notes};
+use sve_scoped::{Text, declared_at, type_in, unpacked_in};
 use sve_tree::{Typedef, Word};
 use sve_type_of::Typed;
 use sve_types::Ty;
@@ -45,12 +45,16 @@ fn with_named_type(
         .to(text.words, token)?
         .to(text.words, written.semicolon)?;
     let Passed { contents, at: _ } = passed;
-    let contents = with_notes(contents, notes)?;
+    let contents = contents.with_notes(notes)?;
     type_name(alloc, text.words, contents, token, ty, written.semicolon)
 }
 
-/// What a declaration of a type leaves (IEEE 1800-2017, 6.18): the names of its enumerations, and its own.
-pub(crate) fn with_typedef(
+/// What a declaration of a type leaves in a scope (IEEE 1800-2017, 6.18): the names of its enumerations, then its own, and what there is to
+/// say of the type and of the dimensions behind its name.
+///
+/// # Errors
+/// For want of memory alone.
+pub fn with_typedef(
     alloc: Global,
     text: Text<'_>,
     contents: Contents,
@@ -59,7 +63,7 @@ pub(crate) fn with_typedef(
     ensures { IfOk result (λ c. c ≡ with_typedef (told_in text.entry.packages.now text.entry.words.now) text.entry.words.now contents written.now) }
 {
     let Typed { ty, notes } = type_in(alloc, text, &contents, &written.data_type)?;
-    let contents = with_notes(contents, notes)?;
+    let contents = contents.with_notes(notes)?;
     let at = written.keyword;
     let passed = Passed { contents, at };
     let passed = with_names(alloc, text.words, &written.data_type, &ty, passed)?;

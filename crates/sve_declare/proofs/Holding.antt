@@ -1,4 +1,4 @@
--- A scope all of whose imports are of packages that its text names, and what keeps it so.
+-- Scopes all of whose imports are of packages that their text names, and what keeps them so.
 use Rattle.std.proofs.Common.{◌≡◌, ℕ, zero, suc, ◌+◌, ◌-◌, Bool, true, false, cond, List, [], ◌∷◌, ◌++◌, Option, Some, None, is_some}
 use Rattle.std.specs.List.{AllByRecursion}
 use Rattle.sve_diag.specs.declared.diag.Note.{Note}
@@ -24,11 +24,11 @@ use Rattle.sve_scope.specs.declared.what.What.{What}
 use Rattle.sve_scope.specs.declared.what.What.TheVariants as is_what
 use Rattle.sve_scope.specs.Imports.{WildcardImport}
 use Rattle.sve_scope.specs.Lookup.{looked_up}
-use Rattle.sve_scope.specs.Scopes.{declared_as, declaring}
+use Rattle.sve_scope.specs.Scopes.{declared_as, declaring, taking_at}
 use Rattle.sve_known.specs.Naming.{name_at}
 use Rattle.sve_contents.specs.declared.contents.Contents.{Contents}
 use Rattle.sve_contents.specs.Reading.{declaring_in, noted_if, said, spot_in, with_entry, with_scope}
-use Rattle.sve_contents.specs.Uses.{is_taken, taking_in, with_use}
+use Rattle.sve_contents.specs.Uses.{place_taken, taking_if, taking_in, with_use}
 use Rattle.sve_enumerated.specs.declared.passed.Passed.{Passed}
 use Rattle.sve_enumerated.specs.Found.{enumeration_in, value_next, values_of}
 use Rattle.sve_enumerated.specs.Names.{name_after, named_by, names_behind, names_over, separator, shared_alone, value_of, with_enumeration}
@@ -59,7 +59,7 @@ module _ (ws : List Word) where
   AreNamed s = AllByRecursion OneNamed s.explicit × AllByRecursion AllNamed s.wild
 
   abbrev pub Holds : Contents → Type 0
-  Holds c = AreNamed c.scope
+  Holds c = AllByRecursion AreNamed (c.scope ∷ c.around)
 
   -- ---- what is said, and what is declared
 
@@ -97,9 +97,22 @@ module _ (ws : List Word) where
 
   -- ---- uses
 
-  of_use : (c : Contents) (token : ℕ) (n : Option (List ℕ)) → Holds c → Holds (with_use c token n)
+  of_taken_at : (ss : List Scope) (place : ℕ) (n : List ℕ) → AllByRecursion AreNamed ss → AllByRecursion AreNamed (taking_at ss place n)
+  of_taken_at [] place n h = h
+  of_taken_at (s ∷ ss) zero n h = h
+  of_taken_at (s ∷ ss) (suc place) n h = (h.0, of_taken_at ss place n h.1)
+
+  of_taking : (c : Contents) (place : ℕ) (n : List ℕ) → Holds c → Holds (taking_in c place n)
+  of_taking c zero n h = h
+  of_taking c (suc place) n h = (h.0, of_taken_at c.around place n h.1)
+
+  of_taking_if : (c : Contents) (n : List ℕ) (place : Option ℕ) → Holds c → Holds (taking_if c n place)
+  of_taking_if c n None h = h
+  of_taking_if c n (Some place) h = of_taking c place n h
+
+  pub of_use : (c : Contents) (token : ℕ) (n : Option (List ℕ)) → Holds c → Holds (with_use c token n)
   of_use c token None h = h
-  of_use c token (Some n) h = elim (is_taken (looked_up (c.scope ∷ []) n token)) as (λ b. Holds (cond b (taking_in c n) c)) [ true ↦ h | false ↦ h ]
+  of_use c token (Some n) h = of_taking_if c n (place_taken (looked_up (c.scope ∷ c.around) n token)) h
 
   of_used : (c : Contents) (token : ℕ) → Holds c → Holds (used_at ws c token)
   unfolding used_at
