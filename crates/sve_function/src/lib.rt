@@ -1,0 +1,10 @@
+//! What functions declare in the scope of a package or of a compilation unit, as far as they are seen from outside, and with them all
+//! declarations there (IEEE 1800-2017, 13.4 and clause 26).
+#![tactic(auto)]
+
+mod functions;
+mod laws;
+mod typing;
+
+pub use laws::facts_follow;
+pub use typing::Constants;
