@@ -39,7 +39,11 @@ module _ (words : List Word) (chain : List Scope) where
   net_of_use (Called name) = []
   net_of_use (Dotted name postfixes) = []
 
+-- the scopes that see the names, from the innermost outward
+abbrev pub seen_by : Gathering → List Scope
+seen_by g = g.scope.now ∷ g.around.now
+
 abbrev pub gathered : Gathering → Use → Gathering
-gathered g (Named name) = record g { nets = g.nets ++ net_of g.words.now g.chain.now name }
+gathered g (Named name) = record g { nets = g.nets ++ net_of g.words.now (seen_by g) name }
 gathered g (Called name) = g
 gathered g (Dotted name postfixes) = g

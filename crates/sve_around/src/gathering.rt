@@ -1,5 +1,5 @@
 //! The uses of names that declare nets.
-ghost use Rattle.std.specs.Prelude.{◌≡◌, ◌++◌, IfOk};
+ghost use Rattle.std.specs.Prelude.{◌≡◌, ◌∷◌, ◌++◌, IfOk};
 ghost use Rattle.std.specs.List.{flat_map};
 ghost use Rattle.sve_scope.specs.Lookup.{meaning_of};
 ghost use Rattle.sve_use.specs.Uses.{uses};
@@ -10,7 +10,7 @@ use std::mem;
 use sve_bytes::{List, Name, NoMemory};
 use sve_connect::Net;
 use sve_known::name_at;
-use sve_scope::{Found, Scope, lookup};
+use sve_scope::{Enclosing, Found, Scope, lookup};
 use sve_tree::{Expr, Postfix, ScopedName, Select, Word};
 use sve_use::{Resolver, names_in};
 
@@ -19,7 +19,8 @@ use sve_use::{Resolver, names_in};
 pub(crate) struct Gathering<'a> {
     pub(crate) alloc: Global,
     pub(crate) words: &'a [Word],
-    pub(crate) chain: &'a [Scope],
+    pub(crate) scope: &'a Scope,
+    pub(crate) around: &'a Enclosing<Scope>,
     pub(crate) nets: List<Net>,
 }
 
@@ -51,13 +52,14 @@ fn net_unless(
 fn net_named(
     nets: List<Net>,
     words: &[Word],
-    chain: &[Scope],
+    scope: &Scope,
+    around: &Enclosing<Scope>,
     token: u32,
 ) -> Result<List<Net>, NoMemory>
-    ensures { IfOk result (λ l. l ≡ nets ++ net_named words.now chain.now token) }
+    ensures { IfOk result (λ l. l ≡ nets ++ net_named words.now (scope.now ∷ around.now) token) }
 {
     match name_at(words, token) {
-        Some(name) => net_unless(nets, lookup(chain, name, token), name, token),
+        Some(name) => net_unless(nets, lookup(scope, around, name, token), name, token),
         None => Ok(nets),
     }
 }
@@ -66,14 +68,15 @@ fn net_named(
 fn net_of(
     nets: List<Net>,
     words: &[Word],
-    chain: &[Scope],
+    scope: &Scope,
+    around: &Enclosing<Scope>,
     name: ScopedName,
 ) -> Result<List<Net>, NoMemory>
-    ensures { IfOk result (λ l. l ≡ nets ++ net_of words.now chain.now name) }
+    ensures { IfOk result (λ l. l ≡ nets ++ net_of words.now (scope.now ∷ around.now) name) }
 {
     match name.scope {
         Some(_) => Ok(nets),
-        None => net_named(nets, words, chain, name.name),
+        None => net_named(nets, words, scope, around, name.name),
     }
 }
 
@@ -84,7 +87,7 @@ impl Resolver for Gathering<'_> {
 
     fn named(&mut self, name: ScopedName) -> Result<(), NoMemory> {
         let nets = mem::replace(&mut self.nets, List::of(Vec::new(self.alloc)));
-        self.nets = net_of(nets, self.words, self.chain, name)?;
+        self.nets = net_of(nets, self.words, self.scope, self.around, name)?;
         Ok(())
     }
 
@@ -107,23 +110,26 @@ impl Resolver for Gathering<'_> {
 pub(crate) fn gather(
     alloc: Global,
     words: &[Word],
-    chain: &[Scope],
+    scope: &Scope,
+    around: &Enclosing<Scope>,
     nets: List<Net>,
     expr: &Expr,
 ) -> Result<List<Net>, NoMemory>
-    ensures { IfOk result (λ l. l ≡ nets ++ flat_map (net_of_use words.now chain.now) (uses expr.now)) }
+    ensures { IfOk result (λ l. l ≡ nets ++ flat_map (net_of_use words.now (scope.now ∷ around.now)) (uses expr.now)) }
 {
     let mut gathering = Gathering {
         alloc,
         words,
-        chain,
+        scope,
+        around,
         nets,
     };
     names_in(expr, &mut gathering)?;
     let Gathering {
         alloc: _,
         words: _,
-        chain: _,
+        scope: _,
+        around: _,
         nets,
     } = gathering;
     Ok(nets)

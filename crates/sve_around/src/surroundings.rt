@@ -1,4 +1,4 @@
-ghost use Rattle.std.specs.Prelude.{◌≡◌, option_map};
+ghost use Rattle.std.specs.Prelude.{◌≡◌, ◌∷◌, option_map};
 ghost use Rattle.sve_known.specs.Naming.{name_at};
 ghost use Rattle.sve_around.specs.Around.{face_named};
 
@@ -10,7 +10,7 @@ use std::mem;
 use sve_bytes::{List, Name, NoMemory};
 use sve_connect::{Around, Net, Thing};
 use sve_known::{Known, name_at};
-use sve_scope::{Scope, lookup};
+use sve_scope::{Enclosing, Scope, lookup};
 use sve_table::Table;
 use sve_tree::{Expr, Word};
 
@@ -26,8 +26,10 @@ pub struct Surroundings<'a, I> {
     pub chunk: u32,
     /// The words of the chunk.
     pub words: &'a [Word],
-    /// The scopes that see the instance, from the innermost outward. It stands in the text of the first.
-    pub chain: &'a [Scope],
+    /// The innermost scope that sees the instance, which stands in its text.
+    pub scope: &'a Scope,
+    /// The scopes around that one.
+    pub around: &'a Enclosing<Scope>,
     /// The packages that are known.
     pub packages: &'a Table<Known>,
     /// The token of the instance in the chunk.
@@ -37,18 +39,19 @@ pub struct Surroundings<'a, I> {
 }
 
 /// The interface that the name at a token stands for, where it is used.
-fn face_at<'a, I: Instances>(around: &Surroundings<'a, I>, token: u32) -> Option<&'a Name>
-    ensures { option_map (λ n. n.now) result ≡ face_named around.now.words.now around.now.chain.now around.now.packages.now (I.interfaces around.now.instances.now) (name_at around.now.words.now token) token }
+fn face_at<'a, I: Instances>(seen: &Surroundings<'a, I>, token: u32) -> Option<&'a Name>
+    ensures { option_map (λ n. n.now) result ≡ face_named seen.now.words.now (seen.now.scope.now ∷ seen.now.around.now) seen.now.packages.now (I.interfaces seen.now.instances.now) (name_at seen.now.words.now token) token }
 {
-    let name = name_at(around.words, token)?;
-    let found = lookup(around.chain, name, token);
-    face_in(thing_found(around.packages, around.instances, token, found))
+    let name = name_at(seen.words, token)?;
+    let found = lookup(seen.scope, seen.around, name, token);
+    face_in(thing_found(seen.packages, seen.instances, token, found))
 }
 
 impl<I: Instances> Around for Surroundings<'_, I> {
+    ghost use Rattle.std.specs.Prelude.{◌∷◌};
     ghost use Rattle.sve_around.specs.Around.{seen_around};
 
-    ghost seen = { λ s. seen_around s.file.now s.chunk s.words.now s.chain.now s.packages.now s.at (I.interfaces s.instances.now) };
+    ghost seen = { λ s. seen_around s.file.now s.chunk s.words.now (s.scope.now ∷ s.around.now) s.packages.now s.at (I.interfaces s.instances.now) };
 
     fn file(&self) -> &Name {
         self.file
@@ -67,7 +70,7 @@ impl<I: Instances> Around for Surroundings<'_, I> {
             self.packages,
             self.instances,
             self.at,
-            lookup(self.chain, name, self.at),
+            lookup(self.scope, self.around, name, self.at),
         )
     }
 
@@ -80,7 +83,15 @@ impl<I: Instances> Around for Surroundings<'_, I> {
 
     fn add_nets(&self, expr: &Expr, nets: &mut Vec<Net>) -> Result<(), NoMemory> {
         let before = List::of(mem::replace(nets, Vec::new(self.alloc)));
-        *nets = gather(self.alloc, self.words, self.chain, before, expr)?.into_vec();
+        *nets = gather(
+            self.alloc,
+            self.words,
+            self.scope,
+            self.around,
+            before,
+            expr,
+        )?
+        .into_vec();
         Ok(())
     }
 }
