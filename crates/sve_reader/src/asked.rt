@@ -1,5 +1,5 @@
 //! One ask of a reader.
-ghost use Rattle.std.specs.Prelude.{◌≡◌, IfOk, IfErr, OnOk, IsTrue};
+ghost use Rattle.std.specs.Prelude.{◌≡◌, false, IfOk, IfErr, OnOk, IsTrue};
 ghost use Rattle.std.specs.Arc.{arc_value};
 ghost use Rattle.sve_store.specs.Told.{HasStopped};
 ghost use Rattle.sve_ask.specs.Sound.{Defined, AllSound};
@@ -37,6 +37,7 @@ pub(crate) fn asked<K: Ending, W: Watch>(
     ensures gave { GaveMore (W.gave guard.old.watch) (W.gave guard.new.watch) }
     ensures still { StaysUpToDate (record { cmp = K.Key.cmp; given = K.given; make = K.make; ranked = K.ranked; serves = K.serves }) lent.now.snapshot.files lent.now.memos fresh.old.memos fresh.new.memos }
     ensures quiet { IsUpToDate (record { cmp = K.Key.cmp; given = K.given; make = K.make; ranked = K.ranked; serves = K.serves }) lent.now.snapshot.files fresh.old.memos lent.now.memos key.now fuel → K.counted kinds.new ≡ K.counted kinds.old }
+    ensures held { OnOk result (K.is_input key.now ≡ false → IsUpToDate (record { cmp = K.Key.cmp; given = K.given; make = K.make; ranked = K.ranked; serves = K.serves }) lent.now.snapshot.files fresh.new.memos lent.now.memos key.now fuel) }
     ensures value { IfOk result (λ value. IsServed (record { cmp = K.Key.cmp; given = K.given; make = K.make; ranked = K.ranked; serves = K.serves }) lent.now.snapshot.files K.read_at key.now fuel (arc_value value)) }
     ensures stopped { IfErr result (HasStopped (above lent.now.snapshot.revision (W.gave guard.old.watch)) (above lent.now.snapshot.revision (W.gave guard.new.watch))) }
     ensures went { OnOk result (above lent.now.snapshot.revision (W.gave guard.new.watch) ≡ above lent.now.snapshot.revision (W.gave guard.old.watch)) }

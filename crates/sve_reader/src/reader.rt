@@ -85,6 +85,8 @@ impl<'a, K: Ending, W: Watch> Fetch<K> for Reader<'a, K, W> {
 
     ghost is_quiet = { λ s k fuel. IsUpToDate (record { cmp = K.Key.cmp; given = K.given; make = K.make; ranked = K.ranked; serves = K.serves }) s.lent.now.snapshot.files s.fresh.now.memos s.lent.now.memos k fuel };
 
+    ghost remembers = { Unit {0} };
+
     ghost halted = { λ s. None };
 
     // what its watch gave above the snapshot's revision

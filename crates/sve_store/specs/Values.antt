@@ -5,6 +5,7 @@ use Rattle.std.specs.Prelude.{ℕ, ◌≡◌, ◌<◌, List, [], ◌∷◌, ◌+
 use Rattle.std.specs.declared.cmp.Ordering.{Ordering}
 use Rattle.sve_store.specs.Made.{Made, Needs, Done, value_in, IsOneOf}
 use Rattle.sve_store.specs.declared.answer.Answer.{Answer}
+use Rattle.sve_store.specs.declared.answer.Answer.TheVariants.{Done as Answered, Spent}
 
 -- over these told values the key comes to this value, and has these keys told on the way
 pub data Gives {K V : Type 0} (cmp : K → K → Ordering) (given : K → Option V) (make : K → ℕ → (K → Option V) → Made K V) : K → ℕ → List (K × V) → V → List K → Type 0 where
@@ -12,6 +13,11 @@ pub data Gives {K V : Type 0} (cmp : K → K → Ordering) (given : K → Option
   is_made : {k : K} {fuel : ℕ} {told : List (K × V)} {v : V} → given k ≡ None → make k fuel (value_in cmp told) ≡ Done v → Gives cmp given make k fuel told v []
   is_needed : {k : K} {fuel : ℕ} {told : List (K × V)} {v : V} {reads : List K} {j : K} {w : V} {others : List K} → given k ≡ None → make k fuel (value_in cmp told) ≡ Needs j
       → Gives cmp given make j 0 [] w others → Gives cmp given make k fuel (told ++ ((j, w) ∷ [])) v reads → Gives cmp given make k fuel told v (j ∷ reads)
+
+-- the answer has lines
+abbrev pub IsDone : Answer → Type 0
+IsDone (Answered lines) = Unit {0}
+IsDone Spent = ⊥
 
 module _ {K V : Type 0} (cmp : K → K → Ordering) (given : K → Option V) (make : K → ℕ → (K → Option V) → Made K V) where
   -- the value of the key at the fuel

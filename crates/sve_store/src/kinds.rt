@@ -7,7 +7,7 @@ ghost use Rattle.sve_text.specs.Files.{FilesValue};
 ghost use Rattle.sve_history.specs.Histories.{HistoryValue, IsOpening, files_at};
 ghost use Rattle.sve_store.specs.declared.answer.Answer.{Answer as AnswerValue};
 ghost use Rattle.sve_store.specs.Made.{Made, Needs, Done, next_count, values_of, IsOneOf};
-ghost use Rattle.sve_store.specs.Values.{IsValue, TellsValues, TellsLowerValues};
+ghost use Rattle.sve_store.specs.Values.{IsValue, IsDone, TellsValues, TellsLowerValues};
 ghost use Rattle.sve_store.specs.Told.{Holds, Matches, Follows, TellSame, HasStopped, HaltedAt, with_asked};
 
 use crate::answer::Answer;
@@ -110,6 +110,9 @@ pub trait Fetch<K: Keyed> {
     // Whether a fetch of the key with the fuel computes nothing.
     ghost is_quiet: { Self → K.Key → ℕ → Type 0 };
 
+    // Whether it keeps what it found.
+    ghost remembers: { Type 0 };
+
     // The key at which it halted since it could tell nothing of it.
     ghost halted: { Self → Option K.Key };
 
@@ -145,6 +148,9 @@ pub trait Fetch<K: Keyed> {
         // An answer is what it tells.
         ensures found { IfOk result (λ v. tells self.old k.now fuel (arc_value v)) }
         ensures asked { OnOk result (asked self.new ≡ with_asked (k.now, fuel) (asked self.old)) }
+
+        // Where it keeps what it found, a fetch of a computed key that was found computes nothing.
+        ensures again { OnOk result (remembers → K.is_input k.now ≡ false → is_quiet self.new k.now fuel) }
 
         // It halts only at a key of which it tells nothing, and notes the number of each stop.
         ensures still { OnOk result (halted self.new ≡ halted self.old) }
@@ -204,6 +210,9 @@ pub trait Kinds: Keyed {
         ensures keeps { F.keeps from.old from.new }
         ensures answered { (table : Self.Key → ℕ → Self.Value) → Follows Self.read_at table (F.tells from.old) → IfOk result (λ answer. answer ≡ answer_over table q.now budget) }
         ensures quiet { (table : Self.Key → ℕ → Self.Value) → Follows Self.read_at table (F.tells from.old) → ((k : Self.Key) (f : ℕ) → asks_over table q.now budget k f → F.is_quiet from.old k f) → Self.counted (F.kind from.new) ≡ Self.counted (F.kind from.old) }
+
+        // What is done has fetched each computed key that it asks for.
+        ensures done { F.remembers → (table : Self.Key → ℕ → Self.Value) → Follows Self.read_at table (F.tells from.old) → IfOk result (λ answer. IsDone answer → (k : Self.Key) (f : ℕ) → Self.is_input k ≡ false → asks_over table q.now budget k f → F.is_quiet from.new k f) }
         ensures stopped { IfErr result (HasStopped (F.stops from.old) (F.stops from.new)) }
         ensures went { OnOk result (F.stops from.new ≡ F.stops from.old) };
 

@@ -83,6 +83,8 @@ impl<'a, K: Ending> Fetch<K> for Plain<'a, K> {
 
     ghost is_quiet = { λ s k fuel. ⊥ };
 
+    ghost remembers = { ⊥ };
+
     ghost halted = { λ s. None };
 
     ghost stops = { λ s. [] };

@@ -37,6 +37,8 @@ impl<'a, K: Keyed> Fetch<K> for Try<'a, K> {
 
     ghost is_quiet = { λ s k fuel. Unit {0} };
 
+    ghost remembers = { Unit {0} };
+
     ghost halted = { λ s. s.missing };
 
     ghost stops = { λ s. [] };

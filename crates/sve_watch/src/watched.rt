@@ -47,6 +47,8 @@ impl<'a, K: Ending> Fetch<K> for Watched<'a, K> {
 
     ghost is_quiet = { λ s k fuel. ⊥ };
 
+    ghost remembers = { ⊥ };
+
     ghost halted = { λ s. None };
 
     // the looks that are above the snapshot's revision

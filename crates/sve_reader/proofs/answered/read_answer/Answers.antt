@@ -43,3 +43,15 @@ returns-clause-quiet g c = λ table is all.
     let still = c.answer-answer.ensures.quiet table (λ k f v told. served_value (D g) g.row.K-Value.coded g.K.Keyed.read_at c.new-from.result.lent.now.snapshot snapshot same table is (c.no_key_has_two_values.ensures snapshot.files) k f v told) (λ k f asks. ready_with (D g) c.new-from.result.lent.now.snapshot snapshot c.new-from.result.lent.now.memos c.args.lent.now.memos c.new-from.result.fresh.now.memos c.args.fresh.now.memos same (ap (λ l. l.memos) lent) (ap (λ f. f.memos) c.new-from.ensures.fresh) k f (all k f asks)) in
     let last = c.kinds-1.given.1 (sym (keeps.0 ∙ c.new-from.ensures.same_kinds)) ∙ c.end-watch.ensures.kinds in
     ap counted last ∙ still ∙ ap counted c.new-from.ensures.kinds
+
+pub returns-clause-done : goal.returns-clause-done
+returns-clause-done g c = λ table is.
+    let snapshot = c.args.lent.now.snapshot in
+    let from = c.answer-answer.new.from in
+    let keeps = c.answer-answer.ensures.keeps in
+    let lent = c.new-from.ensures.lent in
+    let same = ap (λ l. l.snapshot) lent in
+    let last = c.fresh-1.given.1 (sym (keeps.1 ∙ c.new-from.ensures.same_fresh)) ∙ c.end-watch.ensures.fresh in
+    let told = c.answer-answer.ensures.done tt table (λ k f v told. served_value (D g) g.row.K-Value.coded g.K.Keyed.read_at c.new-from.result.lent.now.snapshot snapshot same table is (c.no_key_has_two_values.ensures snapshot.files) k f v told) in
+    ok_map c.answer-answer.result _ _ told (λ answer up done k f not asks. ready_with (D g) snapshot from.lent.now.snapshot c.args.lent.now.memos from.lent.now.memos _ from.fresh.now.memos
+    (sym (keeps.2 ∙ same)) (sym (keeps.3 ∙ ap (λ l. l.memos) lent)) (ap (λ f. f.memos) last) k f (up done k f not asks))

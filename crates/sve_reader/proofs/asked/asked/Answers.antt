@@ -9,6 +9,7 @@ use Rattle.sve_store.specs.Values.{IsValue}
 use Rattle.sve_store.specs.Snapshots.{SnapshotValue, IsRevision}
 use Rattle.sve_ask.specs.Sound.{Defined}
 use Rattle.sve_ask.specs.Watched.{HasCause}
+use Rattle.sve_reader.proofs.Fetched.{over_lent, fetched}
 use Rattle.sve_reader.proofs.Calls.{handed, cause_since, grown, stopped_seen, went_on, ok_same}
 use Rattle.sve_reader.proofs.asked.asked.Given as given
 use Rattle.sve_reader.proofs.asked.asked.Goals as goal
@@ -52,6 +53,11 @@ returns-clause-still g c = λ k fuel up. ∥∥₁_elim c.requires.settled ∥�
 
 pub returns-clause-quiet : goal.returns-clause-quiet
 returns-clause-quiet g c = λ up. ∥∥₁_elim up (Coded-set coded_ℕ _ _) (λ u. (c.ask-came.ensures.current u).0)
+
+pub returns-clause-held : goal.returns-clause-held
+returns-clause-held g c =
+    fetched c.told.result c.ask-came.result _ _ _ c.told.ensures.same (∥∥₁_elim c.requires.settled ∥∥₁_prop (λ s. ∥∥₁_map (c.ask-came.ensures.makes s) (λ m. m.3)))
+    (λ not now. over_lent (D g) g.K.Keyed.is_input g.met.K.Keyed.inputs c.args.lent.now.snapshot.files c.ask-came.new.fresh.memos c.args.lent.now.memos c.args.key.now c.args.fuel not now)
 
 pub returns-clause-value : goal.returns-clause-value
 returns-clause-value g c =
