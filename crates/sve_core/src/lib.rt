@@ -1,4 +1,4 @@
-//! What all clients share: the history, and one step of it for each call.
+//! What all clients share: the history with the values that were computed over it, and one step of them for each call.
 #![tactic(auto)]
 
 mod commit;

@@ -9,13 +9,12 @@ use Rattle.sve_history.specs.declared.entry.Entry.{Entry}
 use Rattle.sve_history.specs.Histories.{HistoryValue, commands_of, IsRising}
 use Rattle.sve_history.proofs.Pushes.{commands_of-push, rising-push}
 use Rattle.sve_store.specs.declared.answer.Answer.{Answer}
-use Rattle.sve_store.specs.Snapshots.{SnapshotValue}
 use Rattle.sve_core.specs.declared.commit.Commit.TheVariants.{Accepted}
 use Rattle.sve_seat.specs.declared.told.Told.{Told}
 use Rattle.sve_seat.specs.declared.told.Told.TheVariants.{Committed}
 use Rattle.sve_seat.specs.declared.open.Open.{Open}
 use Rattle.sve_seat.specs.Outcomes.{named, front_after, command_of, accepted_in, accepted, IsHonest}
-use Rattle.sve_seat.specs.Seats.{SeatValue, hearing, IsOpen, IsSeat}
+use Rattle.sve_seat.specs.Seats.{SeatValue, HeldValue, hearing, IsOpen, IsSeat}
 use Rattle.sve_seat.proofs.Later.{grown, longer, last_there, are_honest_later, are_honest-push, front_after-push, accepted-push}
 
 within_push : (looks : List ℕ) (bound r : ℕ) → All (λ look. look ≤ bound) looks → r ≤ bound → All (λ look. look ≤ bound) (looks ++ r ∷ [])
@@ -25,8 +24,8 @@ within_push looks bound r all within = All-append (λ look. look ≤ bound) look
     one zero d lt = within
     one (suc k) d lt = absurd (omega arith)
 
-abbrev Seat : Type 0 → Type 0
-Seat Q = SeatValue Q SnapshotValue
+abbrev Seat : Type 0 → Type 0 → Type 0 → Type 0
+Seat Q K V = SeatValue Q (HeldValue K V)
 
 -- the entries of one client, with one more entry
 own_more : (i : ℕ) (entries : List Entry) (e : Entry) → e.client ≡ i → commands_of i (entries ++ e ∷ []) ≡ commands_of i entries ++ e.command ∷ []
@@ -47,7 +46,7 @@ not_more i entries e differ = commands_of-push i entries e ∙ ap (λ (l : List 
     other : (eqb e.client i ≡ false) × (e.client ≡ i → ⊥) → commands_of i (e ∷ []) ≡ []
     other t = ap (λ (b : Bool). map (λ (x : Entry). x.command) (cond b (e ∷ []) [])) t.0
 
-open_later : {Q : Type 0} (history : HistoryValue) (more : List Entry) (seat : Seat Q) (o : Open SnapshotValue) → IsOpen history seat o → IsOpen (grown history more) seat o
+open_later : {Q K V : Type 0} (history : HistoryValue) (more : List Entry) (seat : Seat Q K V) (o : Open (HeldValue K V)) → IsOpen history seat o → IsOpen (grown history more) seat o
 open_later history more seat o is = record {
   made = is.made;
   within = longer history more o.snapshot.revision is.within;
@@ -56,13 +55,13 @@ open_later history more seat o is = record {
   unanswered = is.unanswered;
 }
 
-held_later : {Q : Type 0} (history : HistoryValue) (more : List Entry) (seat : Seat Q) (held : Option (Open SnapshotValue)) → IfSome held (IsOpen history seat) → IfSome held (IsOpen (grown history more) seat)
+held_later : {Q K V : Type 0} (history : HistoryValue) (more : List Entry) (seat : Seat Q K V) (held : Option (Open (HeldValue K V))) → IfSome held (IsOpen history seat) → IfSome held (IsOpen (grown history more) seat)
 held_later history more seat None is = tt
 held_later history more seat (Some o) is = open_later history more seat o is
 
-module _ {Q : Type 0} (answers : FilesValue → Q → ℕ → Answer → Type 0) (history : HistoryValue) where
+module _ {Q K V : Type 0} (answers : FilesValue → Q → ℕ → Answer → Type 0) (history : HistoryValue) where
   -- another client's commit is accepted
-  pub seat_later : (i : ℕ) (seat : Seat Q) (e : Entry) → (e.client ≡ i → ⊥) → IsSeat answers history i seat → IsSeat answers (grown history (e ∷ [])) i seat
+  pub seat_later : (i : ℕ) (seat : Seat Q K V) (e : Entry) → (e.client ≡ i → ⊥) → IsSeat answers history i seat → IsSeat answers (grown history (e ∷ [])) i seat
   seat_later i seat e differ is = record {
     honest = are_honest_later answers history (e ∷ []) i 0 seat.told is.honest;
     own = not_more i history.entries e differ ∙ is.own;
@@ -74,12 +73,12 @@ module _ {Q : Type 0} (answers : FilesValue → Q → ℕ → Answer → Type 0)
   }
 
   -- its own commit is accepted
-  pub seat_accepts : (i : ℕ) (seat : Seat Q) (e : Entry) → e.client ≡ i → seat.open_at ≡ None → All (λ earlier. earlier < e.command) (map command_of seat.told) → IsSeat answers history i seat
+  pub seat_accepts : (i : ℕ) (seat : Seat Q K V) (e : Entry) → e.client ≡ i → seat.open_at ≡ None → All (λ earlier. earlier < e.command) (map command_of seat.told) → IsSeat answers history i seat
       → IsSeat answers (grown history (e ∷ [])) i (hearing (record seat { looks = seat.looks ++ (length history.entries + 1) ∷ [] }) (Committed e.command e.edits (Accepted (length history.entries + 1))))
   seat_accepts i seat e same closed above is =
       let number = length history.entries + 1 in
       let told : Told Q = Committed e.command e.edits (Accepted number) in
-      let after : Seat Q = hearing (record seat { looks = seat.looks ++ number ∷ [] }) told in
+      let after : Seat Q K V = hearing (record seat { looks = seat.looks ++ number ∷ [] }) told in
       let long : length (history.entries ++ e ∷ []) ≡ number = length-append history.entries (e ∷ []) in
       let place : number - 1 ≡ length history.entries = omega arith in
       let entry : e ≡ record { client = i; command = e.command; edits = e.edits } = (λ k. record { client = same k; command = e.command; edits = e.edits }) in
@@ -93,11 +92,11 @@ module _ {Q : Type 0} (answers : FilesValue → Q → ℕ → Answer → Type 0)
         front = ap (λ (n : ℕ). max n number) is.front ∙ sym (front_after-push 0 seat.told told);
         within = omega (arith, long, is.within);
         looks = within_push seat.looks (length (history.entries ++ e ∷ [])) number (λ k d lt. longer history (e ∷ []) (get_or seat.looks k d) (is.looks k d lt)) (omega (arith, long));
-        held = subst (λ (o : Option (Open SnapshotValue)). IfSome o (IsOpen (grown history (e ∷ [])) after)) (sym closed) tt;
+        held = subst (λ (o : Option (Open (HeldValue K V))). IfSome o (IsOpen (grown history (e ∷ [])) after)) (sym closed) tt;
       }
 
   -- its command is told what leaves the history as it is
-  pub seat_hears : (i : ℕ) (seat : Seat Q) (told : Told Q) (looks : List ℕ) (held : Option (Open SnapshotValue)) → accepted_in told ≡ [] → named told ≤ length history.entries
+  pub seat_hears : (i : ℕ) (seat : Seat Q K V) (told : Told Q) (looks : List ℕ) (held : Option (Open (HeldValue K V))) → accepted_in told ≡ [] → named told ≤ length history.entries
       → All (λ earlier. earlier < command_of told) (map command_of seat.told) → IsHonest answers history i seat.front told → All (λ look. look ≤ length history.entries) looks
       → IfSome held (IsOpen history (hearing (record seat { looks = looks; open_at = held }) told)) → IsSeat answers history i seat → IsSeat answers history i (hearing (record seat { looks = looks; open_at = held }) told)
   seat_hears i seat told looks held none low above honest all opened is = record {
@@ -111,7 +110,7 @@ module _ {Q : Type 0} (answers : FilesValue → Q → ℕ → Answer → Type 0)
   }
 
   -- it looks, begins or ends
-  pub seat_moves : (i : ℕ) (seat : Seat Q) (looks : List ℕ) (held : Option (Open SnapshotValue)) → All (λ look. look ≤ length history.entries) looks
+  pub seat_moves : (i : ℕ) (seat : Seat Q K V) (looks : List ℕ) (held : Option (Open (HeldValue K V))) → All (λ look. look ≤ length history.entries) looks
       → IfSome held (IsOpen history (record seat { looks = looks; open_at = held })) → IsSeat answers history i seat → IsSeat answers history i (record seat { looks = looks; open_at = held })
   seat_moves i seat looks held all opened is = record {
     honest = is.honest;
@@ -123,5 +122,5 @@ module _ {Q : Type 0} (answers : FilesValue → Q → ℕ → Answer → Type 0)
     held = opened;
   }
 
-  pub looks_more : (i : ℕ) (seat : Seat Q) → IsSeat answers history i seat → All (λ look. look ≤ length history.entries) (seat.looks ++ length history.entries ∷ [])
+  pub looks_more : (i : ℕ) (seat : Seat Q K V) → IsSeat answers history i seat → All (λ look. look ≤ length history.entries) (seat.looks ++ length history.entries ∷ [])
   looks_more i seat is = within_push seat.looks (length history.entries) (length history.entries) is.looks (omega arith)

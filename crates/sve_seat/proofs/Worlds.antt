@@ -6,9 +6,8 @@ use Rattle.sve_text.specs.Files.{FilesValue}
 use Rattle.sve_history.specs.declared.entry.Entry.{Entry}
 use Rattle.sve_history.specs.Histories.{HistoryValue, IsOpening, IsLegal}
 use Rattle.sve_store.specs.declared.answer.Answer.{Answer}
-use Rattle.sve_store.specs.Snapshots.{SnapshotValue}
 use Rattle.sve_core.specs.Commits.{CoreValue}
-use Rattle.sve_seat.specs.Seats.{SeatValue, new_seat, IsSeat, IsWorld}
+use Rattle.sve_seat.specs.Seats.{SeatValue, HeldValue, new_seat, IsSeat, IsWorld}
 use Rattle.sve_seat.proofs.Later.{grown}
 use Rattle.sve_seat.proofs.Changes.{seat_later}
 
@@ -19,7 +18,7 @@ module _ {A : Type 0} where
   length-put (y ∷ xs) (suc i) x = ap suc (length-put xs i x)
 
   -- what stands in a list where one item was put
-  at_put : (xs : List A) (i j : ℕ) (x y : A) → slice_get (set xs i x) j ≡ Some y → ((j ≡ i) × (y ≡ x)) ⊎ ((j ≡ i → ⊥) × (slice_get xs j ≡ Some y))
+  pub at_put : (xs : List A) (i j : ℕ) (x y : A) → slice_get (set xs i x) j ≡ Some y → ((j ≡ i) × (y ≡ x)) ⊎ ((j ≡ i → ⊥) × (slice_get xs j ≡ Some y))
   at_put [] i j x y is = absurd (cc)
   at_put (z ∷ xs) zero zero x y is = inl (refl, cc)
   at_put (z ∷ xs) zero (suc j) x y is = inr ((λ same. absurd (omega (arith, same))), is)
@@ -29,7 +28,7 @@ module _ {A : Type 0} where
     | inr else ↦ inr ((λ same. else.0 (omega (arith, same))), else.1)
   ]
 
-module _ {Q : Type 0} (answers : FilesValue → Q → ℕ → Answer → Type 0) (history : HistoryValue) (seats : List (SeatValue Q SnapshotValue)) (place : ℕ) (seat : SeatValue Q SnapshotValue) where
+module _ {Q K V : Type 0} (answers : FilesValue → Q → ℕ → Answer → Type 0) (history : HistoryValue) (seats : List (SeatValue Q (HeldValue K V))) (place : ℕ) (seat : SeatValue Q (HeldValue K V)) where
   -- one client changes, and the history stays
   pub world_changes : IsWorld answers history seats → IsSeat answers history (place + 1) seat → IsWorld answers history (set seats place seat)
   world_changes is changed = record {
@@ -62,28 +61,29 @@ module _ {Q : Type 0} (answers : FilesValue → Q → ℕ → Answer → Type 0)
 
 -- ---- a world that begins
 
-each_new : {Q : Type 0} (n place : ℕ) (seat : SeatValue Q SnapshotValue) → slice_get (replicate n new_seat) place ≡ Some seat → seat ≡ new_seat
+pub each_new : {Q K V : Type 0} (n place : ℕ) (seat : SeatValue Q (HeldValue K V)) → slice_get (replicate n new_seat) place ≡ Some seat → seat ≡ new_seat
 each_new zero place seat is = absurd (cc)
 each_new (suc n) zero seat is = cc
 each_new (suc n) (suc place) seat is = each_new n place seat is
 
-pub world_opens : {Q : Type 0} (answers : FilesValue → Q → ℕ → Answer → Type 0) (opening : FilesValue) (n : ℕ) → IsOpening opening → IsWorld answers (record { opening = opening; entries = [] }) (replicate n new_seat)
-world_opens answers opening n untouched = record {
-  untouched = untouched;
-  legal = record { met = tt; rising = λ client. tt };
-  clients = λ k d lt. absurd (omega (arith, lt));
-  each = λ place seat there. subst (IsSeat answers (record { opening = opening; entries = [] }) (place + 1)) (sym (each_new n place seat there)) (record {
-    honest = tt;
-    own = refl;
-    rising = tt;
-    front = refl;
-    within = omega arith;
-    looks = λ k d lt. absurd (omega (arith, lt));
-    held = tt;
-  });
-}
+module _ {Q K V : Type 0} where
+  pub world_opens : (answers : FilesValue → Q → ℕ → Answer → Type 0) (opening : FilesValue) (n : ℕ) → IsOpening opening → IsWorld {K = K} {V = V} answers (record { opening = opening; entries = [] }) (replicate n new_seat)
+  world_opens answers opening n untouched = record {
+    untouched = untouched;
+    legal = record { met = tt; rising = λ client. tt };
+    clients = λ k d lt. absurd (omega (arith, lt));
+    each = λ place seat there. subst (IsSeat answers (record { opening = opening; entries = [] }) (place + 1)) (sym (each_new n place seat there)) (record {
+      honest = tt;
+      own = refl;
+      rising = tt;
+      front = refl;
+      within = omega arith;
+      looks = λ k d lt. absurd (omega (arith, lt));
+      held = tt;
+    });
+  }
 
-pub opens_as : {Q : Type 0} (answers : FilesValue → Q → ℕ → Answer → Type 0) (opening : FilesValue) (core : CoreValue) (seats : List (SeatValue Q SnapshotValue)) (n : ℕ) → IsOpening opening
-    → core ≡ record { history = record { opening = opening; entries = [] } } → seats ≡ replicate n new_seat → IsWorld answers core.history seats
-opens_as answers opening core seats n untouched is new =
-    subst (IsWorld answers core.history) (sym new) (subst (λ (c : CoreValue). IsWorld answers c.history (replicate n new_seat)) (sym is) (world_opens answers opening n untouched))
+  pub opens_as : (answers : FilesValue → Q → ℕ → Answer → Type 0) (opening : FilesValue) (core : CoreValue K V) (seats : List (SeatValue Q (HeldValue K V))) (n : ℕ) → IsOpening opening
+      → core ≡ record { history = record { opening = opening; entries = [] }; memos = [] } → seats ≡ replicate n new_seat → IsWorld answers core.history seats
+  opens_as answers opening core seats n untouched is new =
+      subst (IsWorld answers core.history) (sym new) (subst (λ (c : CoreValue K V). IsWorld {K = K} {V = V} answers c.history (replicate n new_seat)) (sym is) (world_opens answers opening n untouched))

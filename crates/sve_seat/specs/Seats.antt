@@ -1,9 +1,11 @@
 -- The clients of a world, and what holds of each of them (own).
-use Rattle.std.specs.Prelude.{ℕ, ◌≡◌, ◌+◌, ◌<◌, ◌≤◌, ◌++◌, max, true, false, List, [], ◌∷◌, length, take, map, slice_get, Option, Some, None, IfSome, All}
+use Rattle.std.specs.Prelude.{ℕ, ◌≡◌, ◌+◌, ◌<◌, ◌≤◌, ◌++◌, max, true, false, List, [], ◌∷◌, length, map, slice_get, Option, Some, None, IfSome, All}
 use Rattle.sve_text.specs.Files.{FilesValue}
 use Rattle.sve_history.specs.Histories.{HistoryValue, IsOpening, IsLegal, commands_of, IsRising}
 use Rattle.sve_store.specs.declared.answer.Answer.{Answer}
+use Rattle.sve_memo.specs.Memos.{MemoValue}
 use Rattle.sve_store.specs.Snapshots.{SnapshotValue, IsRevision}
+use Rattle.sve_core.specs.Asks.{history_at}
 use Rattle.sve_seat.specs.declared.told.Told.{Told}
 use Rattle.sve_seat.specs.declared.open.Open.{Open}
 use Rattle.sve_seat.specs.declared.seat.Seat.{Seat}
@@ -39,21 +41,32 @@ abbrev pub answered_at : {S : Type 0} → Option (Open S) → Option (Open S)
 answered_at None = None
 answered_at (Some o) = Some (record o { answered = true })
 
--- the history as it was at revision r
-abbrev pub history_at : HistoryValue → ℕ → HistoryValue
-history_at history r = record { opening = history.opening; entries = take r history.entries }
+-- What a client that began holds: the files of a revision with the history that made them, and what had been found for keys by then.
+pub record HeldValue (K V : Type 0) : Type 0 where
+  pub files : FilesValue
+  pub revision : ℕ
+  pub history : HistoryValue
+  pub memos : List (MemoValue K V)
+
+-- what is held of a snapshot and memos
+abbrev pub held_with : {K V : Type 0} → SnapshotValue → List (MemoValue K V) → HeldValue K V
+held_with snapshot memos = record { files = snapshot.files; revision = snapshot.revision; history = snapshot.history; memos = memos }
+
+-- and without the memos
+abbrev pub snapshot_in : {K V : Type 0} → HeldValue K V → SnapshotValue
+snapshot_in held = record { files = held.files; revision = held.revision; history = held.history }
 
 -- a snapshot that a client holds is of a revision of the history. As long as the client was not answered there, it was told of no later one with an outcome
-pub record IsOpen {Q : Type 0} (history : HistoryValue) (seat : SeatValue Q SnapshotValue) (o : Open SnapshotValue) : Type 0 where
+pub record IsOpen {Q K V : Type 0} (history : HistoryValue) (seat : SeatValue Q (HeldValue K V)) (o : Open (HeldValue K V)) : Type 0 where
   pub made : IsRevision o.snapshot.files o.snapshot.revision o.snapshot.history
   pub within : o.snapshot.revision ≤ length history.entries
   pub shows : o.snapshot.history ≡ history_at history o.snapshot.revision
   pub begun : o.begun ≤ length seat.looks
   pub unanswered : o.answered ≡ false → seat.front ≤ o.snapshot.revision
 
-module _ {Q : Type 0} (answers : FilesValue → Q → ℕ → Answer → Type 0) where
+module _ {Q K V : Type 0} (answers : FilesValue → Q → ℕ → Answer → Type 0) where
   -- what client i was told is so, and its entries in the history are its commands that were accepted
-  pub record IsSeat (history : HistoryValue) (i : ℕ) (seat : SeatValue Q SnapshotValue) : Type 0 where
+  pub record IsSeat (history : HistoryValue) (i : ℕ) (seat : SeatValue Q (HeldValue K V)) : Type 0 where
     pub honest : AreHonest answers history i 0 seat.told
     pub own : commands_of i history.entries ≡ accepted seat.told
     pub rising : IsRising (map command_of seat.told)
@@ -63,8 +76,8 @@ module _ {Q : Type 0} (answers : FilesValue → Q → ℕ → Answer → Type 0)
     pub held : IfSome seat.open_at (IsOpen history seat)
 
   -- each entry of the history is of one of the clients, and each client was told what is so
-  pub record IsWorld (history : HistoryValue) (seats : List (SeatValue Q SnapshotValue)) : Type 0 where
+  pub record IsWorld (history : HistoryValue) (seats : List (SeatValue Q (HeldValue K V))) : Type 0 where
     pub untouched : IsOpening history.opening
     pub legal : IsLegal history
     pub clients : All (λ entry. (0 < entry.client) × (entry.client ≤ length seats)) history.entries
-    pub each : (place : ℕ) (seat : SeatValue Q SnapshotValue) → slice_get seats place ≡ Some seat → IsSeat history (place + 1) seat
+    pub each : (place : ℕ) (seat : SeatValue Q (HeldValue K V)) → slice_get seats place ≡ Some seat → IsSeat history (place + 1) seat

@@ -2,11 +2,10 @@
 use Rattle.std.proofs.Common.{◌≡◌, ℕ, zero, suc, ◌-◌, ◌<◌, List, [], ◌∷◌, length, get_or, set, map, refl, sym, ap, ◌∙◌, subst, arith}
 use Rattle.std.proofs.lemmas.List.{length-map}
 use Rattle.std.proofs.lemmas.Option.{slice_get_within}
-use Rattle.sve_history.specs.Histories.{HistoryValue}
-use Rattle.sve_store.specs.Snapshots.{SnapshotValue}
+use Rattle.sve_core.specs.Commits.{CoreValue}
 use Rattle.sve_seat.specs.declared.seat.Seat.{Seat}
-use Rattle.sve_seat.specs.Seats.{SeatValue, seat_value, new_seat}
-use Rattle.sve_world.specs.Machine.{IsOfClient, seat_of}
+use Rattle.sve_seat.specs.Seats.{SeatValue, HeldValue, seat_value, new_seat}
+use Rattle.sve_world.specs.Machine.{WorldValue, IsOfClient, seat_of}
 
 pub map-put : {A B : Type 0} (f : A → B) (xs : List A) (i : ℕ) (x : A) → map f (set xs i x) ≡ set (map f xs) i (f x)
 map-put f [] i x = refl
@@ -31,10 +30,14 @@ module _ {A B : Type 0} (f : A → B) where
 
 -- ---- the client of a world whose seats are held as these
 
-module _ {Q : Type 0} (history : HistoryValue) (xs : List (Seat Q SnapshotValue)) (client : ℕ) (seat : SeatValue Q SnapshotValue) (there : IsOfClient (record { history = history; seats = map seat_value xs }) client seat) where
+-- the value of a world with this core, whose seats are held as these
+abbrev pub shown : {Q K V : Type 0} → CoreValue K V → List (Seat Q (HeldValue K V)) → WorldValue Q K V
+shown core xs = record { history = core.history; memos = core.memos; seats = map seat_value xs }
+
+module _ {Q K V : Type 0} (core : CoreValue K V) (xs : List (Seat Q (HeldValue K V))) (client : ℕ) (seat : SeatValue Q (HeldValue K V)) (there : IsOfClient (shown core xs) client seat) where
   pub place_held : client - 1 < length xs
   place_held = subst (λ (n : ℕ). client - 1 < n) (length-map xs seat_value) (slice_get_within (map seat_value xs) (client - 1) seat there.there)
 
   -- who sits there is known as the client
-  pub held_is : (d : Seat Q SnapshotValue) → d ≡ get_or xs (client - 1) d → seat_value d ≡ seat_of (record { history = history; seats = map seat_value xs }) client
+  pub held_is : (d : Seat Q (HeldValue K V)) → d ≡ get_or xs (client - 1) d → seat_value d ≡ seat_of (shown core xs) client
   held_is d is = ap seat_value is ∙ sym (got_mapped seat_value xs (client - 1) d new_seat place_held)

@@ -1,9 +1,10 @@
 //! What may happen in a world.
+use sve_ask::Fresh;
 use sve_bytes::List;
-use sve_store::{Fresh, Kinds};
+use sve_store::Kinds;
 use sve_text::{Edit, Mode};
 
-/// One event of a world, by a client, with queries of `Q` and computed values of `F`. Clients and commands count from 1.
+/// One event of a world, by a client, with queries of `Q` and memos in an `F`. Clients and commands count from 1.
 #[derive(Drop)]
 pub enum EventOf<Q, F> {
     /// A commit that is accepted.
@@ -35,7 +36,7 @@ pub enum EventOf<Q, F> {
         mode: Mode,
         newer: Option<u64>,
     },
-    /// The client gives its snapshot back, with the values that were computed at it.
+    /// The client gives its snapshot back, with the memos that were made or verified at it.
     Publish {
         client: u32,
         fresh: F,

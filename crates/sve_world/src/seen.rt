@@ -5,8 +5,9 @@ ghost use Rattle.sve_world.specs.Machine.{IsOfClient, seat_of, IsClient};
 
 use crate::world::World;
 use sve_history::History;
-use sve_seat::{Open, Seat, Told};
-use sve_store::{Snapshot, Start};
+use sve_memo::Memos;
+use sve_seat::{Held, Open, Seat, Told};
+use sve_store::Start;
 
 impl<K: Start> World<K> {
     /// The history. It takes no memory.
@@ -14,6 +15,13 @@ impl<K: Start> World<K> {
         ensures { result.now ≡ self.now.history }
     {
         self.core.history()
+    }
+
+    /// What was found for keys, with what each value rests on. It takes no memory.
+    pub fn memos(&self) -> &Memos<K::Key, K::Value>
+        ensures { result.now ≡ self.now.memos }
+    {
+        self.core.memos()
     }
 
     /// How many clients there are. It takes no memory.
@@ -40,7 +48,7 @@ impl<K: Start> World<K> {
     }
 
     /// The snapshot that a client holds, if any. It takes no memory.
-    pub fn held(&self, client: u32) -> Option<&Open<Snapshot<K>>>
+    pub fn held(&self, client: u32) -> Option<&Open<Held<K>>>
         requires client { IsClient self.now client }
         ensures { option_copied result ≡ (seat_of self.now client).open_at }
     {
@@ -48,7 +56,7 @@ impl<K: Start> World<K> {
     }
 
     /// What a client of this number knows, if there is one. It takes no memory.
-    pub fn seat(&self, client: u32) -> Option<&Seat<K::Query, Snapshot<K>>>
+    pub fn seat(&self, client: u32) -> Option<&Seat<K::Query, Held<K>>>
         ensures { MatchOption result ((seat : _) → IsOfClient self.now client seat → ⊥) (λ seat. IsOfClient self.now client (seat_value seat.now)) }
     {
         if client == 0 {

@@ -3,23 +3,27 @@ ghost use Rattle.std.specs.Prelude.{◌≡◌, ◌≤◌, [], Some, None, IfOk, 
 ghost use Rattle.sve_history.specs.Histories.{IsOpening};
 ghost use Rattle.sve_store.specs.Made.{values_of};
 ghost use Rattle.sve_store.specs.Values.{IsAnswer};
-ghost use Rattle.sve_seat.specs.Seats.{new_seat, IsWorld};
-ghost use Rattle.sve_world.specs.Machine.{IsAllowed, Follows, MayCommit, after_commit, MayLook, after_look, MayBegin, after_begin, MayAsk, AfterAsk, MayPublish, after_publish};
+ghost use Rattle.sve_ask.specs.Sound.{Defined, AllSound};
+ghost use Rattle.sve_seat.specs.declared.open.Open.{Open};
+ghost use Rattle.sve_seat.specs.Seats.{HeldValue, new_seat, IsWorld};
+ghost use Rattle.sve_world.specs.Machine.{MayCome, BringsSound, Follows, MayCommit, after_commit, MayLook, after_look, MayBegin, after_begin, MayAsk, AfterAsk, IsHeld, MayPublish, HasPublished};
 
 use crate::event::{Event, EventOf};
 use std::alloc::Global;
 use std::marker::Model;
+use sve_ask::Fresh;
 use sve_bytes::{List, NoMemory};
 use sve_core::{Core, Outcome};
-use sve_seat::{Seat, Told};
-use sve_store::{Fresh, Snapshot, Start, plain_answer};
+use sve_seat::{Held, Seat, Told};
+use sve_store::{Start, plain_answer};
 use sve_text::{Edit, Files, Mode};
 
 /// What all clients share, and what each of them knows. Whatever events come, each where it is allowed, the history is
-/// legal, what each client was told is so, and its entries in the history are its commands that were accepted.
+/// legal, what each client was told is so, its entries in the history are its commands that were accepted, and each memo is
+/// sound.
 pub struct World<K: Start> {
     pub(crate) core: Core<K>,
-    pub(crate) seats: Vec<Seat<K::Query, Snapshot<K>>>,
+    pub(crate) seats: Vec<Seat<K::Query, Held<K>>>,
 }
 
 impl<K: Start> Model for World<K> {
@@ -29,23 +33,23 @@ impl<K: Start> Model for World<K> {
     ghost use Rattle.sve_seat.specs.Seats.{seat_value, IsWorld};
     ghost use Rattle.sve_world.specs.Machine.{WorldValue};
 
-    ghost Value = { WorldValue K.Query };
+    ghost Value = { WorldValue K.Query K.Key K.Value };
 
-    ghost view = { λ w. record { history = w.core.history; seats = map seat_value w.seats.items } };
+    ghost view = { λ w. record { history = w.core.history; memos = w.core.memos; seats = map seat_value w.seats.items } };
 
     ghost invariant = { λ w. IsWorld (λ files. IsAnswer K.Key.cmp (values_of (K.given files)) K.make K.answer_over) w.core.history (map seat_value w.seats.items) };
 }
 
 impl<K: Start> World<K> {
     /// A world of 1 to 16 clients with these opening files, on condition that no commit has touched them. It has no
-    /// entry and no value, and nobody knows anything.
+    /// entry and no memo, and nobody knows anything.
     ///
     /// # Errors
     /// Only for want of memory.
     pub fn open(alloc: Global, files: Files, clients: u32) -> Result<World<K>, NoMemory>
         requires opening { IsOpening files }
         requires clients { (1 ≤ clients) × (clients ≤ 16) }
-        ensures { IfOk result (λ world. world ≡ record { history = record { opening = files; entries = [] }; seats = replicate clients new_seat }) }
+        ensures { IfOk result (λ world. world ≡ record { history = record { opening = files; entries = [] }; memos = []; seats = replicate clients new_seat }) }
     {
         let mut seats = Vec::with_capacity(alloc, clients as usize)?;
         'seats: while seats.len() < clients as usize {
@@ -111,10 +115,11 @@ impl<K: Start> World<K> {
         ensures unchanged { OnErr result (self.new ≡ self.old) }
     {
         let seat = &mut self.seats[client as usize - 1];
-        let snapshot = self.core.begin(alloc)?;
-        let r = snapshot.revision();
+        let lent = self.core.begin(alloc)?;
+        let held = Held::of(lent);
+        let r = held.revision();
         seat.make_room()?;
-        seat.hold(snapshot, r);
+        seat.hold(held, r);
         Ok(())
     }
 
@@ -137,7 +142,7 @@ impl<K: Start> World<K> {
             unreachable!()
         };
         let revision = open.snapshot.revision();
-        let answer = plain_answer(alloc, &open.snapshot, &query, budget)?;
+        let answer = plain_answer(alloc, open.snapshot.snapshot(), &query, budget)?;
         let outcome = Outcome::of(budget, answer);
         seat.make_room()?;
         seat.hear_answer(Told::Asked {
@@ -182,10 +187,11 @@ impl<K: Start> World<K> {
         Ok(())
     }
 
-    /// A client gives its snapshot back, with the values that were computed at it.
-    fn publish(&mut self, client: u32, fresh: Fresh<K>) -> Result<(), NoMemory>
+    /// A client gives its snapshot back, with the memos that were made or verified at it.
+    fn publish(&mut self, alloc: Global, client: u32, fresh: Fresh<K>) -> Result<(), NoMemory>
         requires may { MayPublish self.old client }
-        ensures after { OnOk result (self.new ≡ after_publish self.old client) }
+        requires sound { (held : Open (HeldValue K.Key K.Value)) → IsHeld self.old client held → ∥ AllSound (record { cmp = K.Key.cmp; given = K.given; make = K.make; ranked = K.ranked; serves = K.serves }) held.snapshot.history fresh.memos ∥₁ }
+        ensures after { OnOk result (HasPublished K.Key.cmp self.old client fresh.memos self.new) }
         ensures unchanged { OnErr result (self.new ≡ self.old) }
     {
         let seat = &mut self.seats[client as usize - 1];
@@ -193,7 +199,8 @@ impl<K: Start> World<K> {
             unreachable!()
         };
         let base = open.snapshot.revision();
-        self.core.publish(base, fresh)?;
+        self.core.publish(alloc, base, fresh)?;
+        self.core.stays_sound();
         seat.finish();
         Ok(())
     }
@@ -205,13 +212,15 @@ impl<K: Start> Drop for World<K> {
     }
 }
 
-/// Lets one event happen, on condition that it may come. It leads to the world that the machine says.
+/// Lets one event happen, on condition that it may come, and that the memos that it brings are sound for the snapshot that is
+/// given back. It leads to the world that the machine says.
 ///
 /// # Errors
 /// Only for want of memory; the world is then as before.
 pub fn step<K: Start>(alloc: Global, world: &mut World<K>, event: Event<K>) -> Result<(), NoMemory>
-    requires allowed { IsAllowed world.old event }
-    ensures after { OnOk result (Follows (λ files. IsAnswer K.Key.cmp (values_of (K.given files)) K.make K.answer_over) world.old event world.new) }
+    requires allowed { MayCome world.old event }
+    requires sound { BringsSound (record { cmp = K.Key.cmp; given = K.given; make = K.make; ranked = K.ranked; serves = K.serves }) (λ fresh. fresh.memos) world.old event }
+    ensures after { OnOk result (Follows (λ files. IsAnswer K.Key.cmp (values_of (K.given files)) K.make K.answer_over) K.Key.cmp (λ fresh. fresh.memos) world.old event world.new) }
     ensures unchanged { OnErr result (world.new ≡ world.old) }
 {
     match event {
@@ -238,6 +247,6 @@ pub fn step<K: Start>(alloc: Global, world: &mut World<K>, event: Event<K>) -> R
             None => world.ask(alloc, client, command, query, budget, mode),
             Some(newer) => world.cancel(client, command, query, budget, mode, newer),
         },
-        EventOf::Publish { client, fresh } => world.publish(client, fresh),
+        EventOf::Publish { client, fresh } => world.publish(alloc, client, fresh),
     }
 }

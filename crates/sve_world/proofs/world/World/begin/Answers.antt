@@ -1,4 +1,5 @@
-use Rattle.std.proofs.Common.{refl}
+use Rattle.std.proofs.Common.{refl, ◌∙◌}
+use Rattle.sve_seat.specs.Seats.{held_with}
 use Rattle.sve_world.proofs.Moves.{always_err, kept_world, kept_as, begun}
 use Rattle.sve_world.proofs.world.World.begin.Goals as goal
 
@@ -13,10 +14,10 @@ returns-in_err-make_room-clause-unchanged g c = always_err _ (kept_as c.self.ins
 
 pub invariant_of-self-2 : goal.invariant_of-self-2
 invariant_of-self-2 g c =
-    (begun _ c.self.inside.core.history c.self.inside.seats.items c.args.client c.index_mut-seat.result.now c.index_mut-seat.ensures.value c.args.self.now c.make_room.new.self c.hold.new.self c.in_ok-snapshot.snapshot c.revision-r.result c.self.view_is c.self.invariant c.requires.may
-    c.in_ok-snapshot.ensures c.revision-r.ensures c.make_room.ensures.same c.hold.ensures).stays
+    (begun _ c.self.inside.core c.self.inside.seats.items c.args.client c.index_mut-seat.result.now c.index_mut-seat.ensures.value c.args.self.now c.make_room.new.self c.hold.new.self c.of-held.result c.revision-r.result c.self.view_is c.self.invariant c.requires.may
+    (c.of-held.ensures ∙ (λ k. held_with (c.in_ok-lent.ensures.snapshot k) (c.in_ok-lent.ensures.memos k))) c.revision-r.ensures c.make_room.ensures.same c.hold.ensures).stays
 
 pub returns-clause-after : goal.returns-clause-after
 returns-clause-after g c =
-    (begun _ c.self.inside.core.history c.self.inside.seats.items c.args.client c.index_mut-seat.result.now c.index_mut-seat.ensures.value c.args.self.now c.make_room.new.self c.hold.new.self c.in_ok-snapshot.snapshot c.revision-r.result c.self.view_is c.self.invariant c.requires.may
-    c.in_ok-snapshot.ensures c.revision-r.ensures c.make_room.ensures.same c.hold.ensures).after
+    (begun _ c.self.inside.core c.self.inside.seats.items c.args.client c.index_mut-seat.result.now c.index_mut-seat.ensures.value c.args.self.now c.make_room.new.self c.hold.new.self c.of-held.result c.revision-r.result c.self.view_is c.self.invariant c.requires.may
+    (c.of-held.ensures ∙ (λ k. held_with (c.in_ok-lent.ensures.snapshot k) (c.in_ok-lent.ensures.memos k))) c.revision-r.ensures c.make_room.ensures.same c.hold.ensures).after

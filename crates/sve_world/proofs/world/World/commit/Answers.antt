@@ -13,7 +13,7 @@ pub returns-in_err-make_room-clause-unchanged : goal.returns-in_err-make_room-cl
 returns-in_err-make_room-clause-unchanged g c = always_err _ (kept_as c.self.inside.core c.self.inside.seats.items c.args.client c.index_mut-seat.result.now c.index_mut-seat.ensures.value c.args.self.now c.self.inside.core c.make_room.new.self refl c.make_room.ensures.same c.self.view_is)
 
 pub commit-requires-clause-rises : goal.commit-requires-clause-rises
-commit-requires-clause-rises g c = rises _ c.self.inside.core.history c.self.inside.seats.items c.args.client c.index_mut-seat.result.now c.index_mut-seat.ensures.value c.args.self.now c.args.command c.args.edits c.self.view_is c.self.invariant c.requires.may
+commit-requires-clause-rises g c = rises _ c.self.inside.core c.self.inside.seats.items c.args.client c.index_mut-seat.result.now c.index_mut-seat.ensures.value c.args.self.now c.args.command c.args.edits c.self.view_is c.self.invariant c.requires.may
 
 pub invariant_of-self-in_err-commit : goal.invariant_of-self-in_err-commit
 invariant_of-self-in_err-commit g c = kept_world c.self.inside.core c.self.inside.seats.items c.args.client c.index_mut-seat.result.now c.index_mut-seat.ensures.value _ c.commit.new.self c.make_room.new.self c.in_err-commit.ensures.unchanged c.make_room.ensures.same c.self.invariant
@@ -23,18 +23,20 @@ returns-in_err-commit-clause-unchanged g c = always_err _ (kept_as c.self.inside
 
 pub invariant_of-self-2 : goal.invariant_of-self-2
 invariant_of-self-2 g c =
-    let old = c.self.inside.core.history in
+    let core = c.self.inside.core in
+    let old = core.history in
     let told : c.in_ok-commit.commit ≡ commit_told old (refusal_of (newest_files old) c.args.edits) = subst (λ (es : List Edit). c.in_ok-commit.commit ≡ commit_told old (refusal_of (newest_files old) es)) c.items.ensures c.in_ok-commit.ensures.told in
-    let after : c.commit.new.self ≡ record { history = committed old (record { client = c.args.client; command = c.args.command; edits = c.args.edits }) (refusal_of (newest_files old) c.args.edits) } =
-    subst (λ (es : List Edit). c.commit.new.self ≡ record { history = committed old (record { client = c.args.client; command = c.args.command; edits = es }) (refusal_of (newest_files old) es) }) c.items.ensures c.in_ok-commit.ensures.after in
-    (has_committed _ c.self.inside.core.history c.self.inside.seats.items c.args.client c.index_mut-seat.result.now c.index_mut-seat.ensures.value c.args.self.now c.args.command c.args.edits c.commit.new.self c.in_ok-commit.commit c.make_room.new.self c.hear_commit.new.self c.len-r.result
+    let after : c.commit.new.self ≡ record { history = committed old (record { client = c.args.client; command = c.args.command; edits = c.args.edits }) (refusal_of (newest_files old) c.args.edits); memos = core.memos } =
+    subst (λ (es : List Edit). c.commit.new.self ≡ record { history = committed old (record { client = c.args.client; command = c.args.command; edits = es }) (refusal_of (newest_files old) es); memos = core.memos }) c.items.ensures c.in_ok-commit.ensures.after in
+    (has_committed _ c.self.inside.core c.self.inside.seats.items c.args.client c.index_mut-seat.result.now c.index_mut-seat.ensures.value c.args.self.now c.args.command c.args.edits c.commit.new.self c.in_ok-commit.commit c.make_room.new.self c.hear_commit.new.self c.len-r.result
     c.self.view_is c.self.invariant c.requires.may after told (c.len-r.ensures ∙ ap (λ (h : HistoryValue). length h.entries) c.history.ensures) c.make_room.ensures.same c.hear_commit.ensures).stays
 
 pub returns-clause-after : goal.returns-clause-after
 returns-clause-after g c =
-    let old = c.self.inside.core.history in
+    let core = c.self.inside.core in
+    let old = core.history in
     let told : c.in_ok-commit.commit ≡ commit_told old (refusal_of (newest_files old) c.args.edits) = subst (λ (es : List Edit). c.in_ok-commit.commit ≡ commit_told old (refusal_of (newest_files old) es)) c.items.ensures c.in_ok-commit.ensures.told in
-    let after : c.commit.new.self ≡ record { history = committed old (record { client = c.args.client; command = c.args.command; edits = c.args.edits }) (refusal_of (newest_files old) c.args.edits) } =
-    subst (λ (es : List Edit). c.commit.new.self ≡ record { history = committed old (record { client = c.args.client; command = c.args.command; edits = es }) (refusal_of (newest_files old) es) }) c.items.ensures c.in_ok-commit.ensures.after in
-    (has_committed _ c.self.inside.core.history c.self.inside.seats.items c.args.client c.index_mut-seat.result.now c.index_mut-seat.ensures.value c.args.self.now c.args.command c.args.edits c.commit.new.self c.in_ok-commit.commit c.make_room.new.self c.hear_commit.new.self c.len-r.result
+    let after : c.commit.new.self ≡ record { history = committed old (record { client = c.args.client; command = c.args.command; edits = c.args.edits }) (refusal_of (newest_files old) c.args.edits); memos = core.memos } =
+    subst (λ (es : List Edit). c.commit.new.self ≡ record { history = committed old (record { client = c.args.client; command = c.args.command; edits = es }) (refusal_of (newest_files old) es); memos = core.memos }) c.items.ensures c.in_ok-commit.ensures.after in
+    (has_committed _ c.self.inside.core c.self.inside.seats.items c.args.client c.index_mut-seat.result.now c.index_mut-seat.ensures.value c.args.self.now c.args.command c.args.edits c.commit.new.self c.in_ok-commit.commit c.make_room.new.self c.hear_commit.new.self c.len-r.result
     c.self.view_is c.self.invariant c.requires.may after told (c.len-r.ensures ∙ ap (λ (h : HistoryValue). length h.entries) c.history.ensures) c.make_room.ensures.same c.hear_commit.ensures).after

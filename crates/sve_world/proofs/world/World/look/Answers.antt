@@ -11,10 +11,10 @@ returns-in_err-make_room-clause-unchanged g c = always_err _ (kept_as c.self.ins
 
 pub invariant_of-self-2 : goal.invariant_of-self-2
 invariant_of-self-2 g c =
-    (looked _ c.self.inside.core.history c.self.inside.seats.items c.args.client c.index_mut-seat.result.now c.index_mut-seat.ensures.value c.args.self.now c.make_room.new.self c.look.new.self c.len-r.result c.self.view_is c.self.invariant c.requires.may
+    (looked _ c.self.inside.core c.self.inside.seats.items c.args.client c.index_mut-seat.result.now c.index_mut-seat.ensures.value c.args.self.now c.make_room.new.self c.look.new.self c.len-r.result c.self.view_is c.self.invariant c.requires.may
     (c.len-r.ensures ∙ ap (λ (h : HistoryValue). length h.entries) c.history.ensures) c.make_room.ensures.same c.look.ensures.value).stays
 
 pub returns-clause-after : goal.returns-clause-after
 returns-clause-after g c =
-    (looked _ c.self.inside.core.history c.self.inside.seats.items c.args.client c.index_mut-seat.result.now c.index_mut-seat.ensures.value c.args.self.now c.make_room.new.self c.look.new.self c.len-r.result c.self.view_is c.self.invariant c.requires.may
+    (looked _ c.self.inside.core c.self.inside.seats.items c.args.client c.index_mut-seat.result.now c.index_mut-seat.ensures.value c.args.self.now c.make_room.new.self c.look.new.self c.len-r.result c.self.view_is c.self.invariant c.requires.may
     (c.len-r.ensures ∙ ap (λ (h : HistoryValue). length h.entries) c.history.ensures) c.make_room.ensures.same c.look.ensures.value).after
