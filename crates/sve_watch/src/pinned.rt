@@ -1,62 +1,46 @@
 //! Asks that are answered whatever comes.
-ghost use Rattle.std.specs.Prelude.{IfOk, IsTrue};
-ghost use Rattle.std.specs.Arc.{arc_value};
+ghost use Rattle.std.specs.Prelude.{◌≡◌, ℕ, false, IfOk, IsTrue};
 ghost use Rattle.sve_store.specs.Made.{values_of};
-ghost use Rattle.sve_store.specs.Values.{IsValue, IsAnswer};
+ghost use Rattle.sve_store.specs.Values.{IsTable, IsAnswer, IsDone};
+ghost use Rattle.sve_ask.specs.Sound.{Defined, AllSound};
+ghost use Rattle.sve_ask.specs.Gains.{IsSettled};
+ghost use Rattle.sve_reader.specs.UpToDate.{IsUpToDate, StaysUpToDate};
 
 use std::alloc::{AllocError, Global};
-use std::sync::Arc;
+use sve_ask::{Fresh, Lent, Never};
 use sve_bytes::NoMemory;
-use sve_store::laws::{each_key_has_a_value, no_key_has_two_values};
-use sve_store::{Answer, Ending, Fetch, Plain, Snapshot};
+use sve_reader::read_answer;
+use sve_store::{Answer, Ending};
 
-/// The answer of a query at the files of a snapshot, within a budget. It computes under the count of `kinds`, on
-/// condition that these may serve for the snapshot's files, and waits for nobody.
+/// The answer of a query at the files of a snapshot, within a budget. It reads through the memos that were lent and the fresh
+/// ones, and keeps among these what it made current. It computes under the count of `kinds`, on condition that these may serve
+/// for the snapshot's files, and waits for nobody. Where all that it asks for is up to date it computes nothing, and where it is
+/// done, all computed values that it asks for are.
 ///
 /// # Errors
 /// Only for want of memory.
 pub fn pinned_answer<K: Ending>(
     alloc: Global,
-    snapshot: &Snapshot<K>,
+    lent: &Lent<K>,
     kinds: &mut K,
     query: &K::Query,
     budget: u32,
+    fresh: &mut Fresh<K>,
 ) -> Result<Answer, NoMemory>
-    requires { IsTrue (K.fits kinds.old snapshot.now.files) }
-    ensures fit { IsTrue (K.fits kinds.new snapshot.now.files) }
-    ensures answer { IfOk result (λ answer. IsAnswer K.Key.cmp (values_of (K.given snapshot.now.files)) K.make K.answer_over query.now budget answer) }
+    requires fit { IsTrue (K.fits kinds.old lent.now.snapshot.files) }
+    requires sound { ∥ AllSound (record { cmp = K.Key.cmp; given = K.given; make = K.make; ranked = K.ranked; serves = K.serves }) lent.now.snapshot.history fresh.old.memos ∥₁ }
+    requires settled { ∥ IsSettled (record { cmp = K.Key.cmp; given = K.given; make = K.make; ranked = K.ranked; serves = K.serves }) lent.now.snapshot.files lent.now.snapshot.revision fresh.old.memos ∥₁ }
+    ensures fit { IsTrue (K.fits kinds.new lent.now.snapshot.files) }
+    ensures sound { ∥ AllSound (record { cmp = K.Key.cmp; given = K.given; make = K.make; ranked = K.ranked; serves = K.serves }) lent.now.snapshot.history fresh.new.memos ∥₁ }
+    ensures settled { ∥ IsSettled (record { cmp = K.Key.cmp; given = K.given; make = K.make; ranked = K.ranked; serves = K.serves }) lent.now.snapshot.files lent.now.snapshot.revision fresh.new.memos ∥₁ }
+    ensures answer { IfOk result (λ answer. IsAnswer K.Key.cmp (values_of (K.given lent.now.snapshot.files)) K.make K.answer_over query.now budget answer) }
+    ensures quiet { (table : K.Key → ℕ → K.Value) → IsTable K.Key.cmp (values_of (K.given lent.now.snapshot.files)) K.make table → ((k : K.Key) (f : ℕ) → K.asks_over table query.now budget k f → IsUpToDate (record { cmp = K.Key.cmp; given = K.given; make = K.make; ranked = K.ranked; serves = K.serves }) lent.now.snapshot.files fresh.old.memos lent.now.memos k f) → K.counted kinds.new ≡ K.counted kinds.old }
+    ensures done { (table : K.Key → ℕ → K.Value) → IsTable K.Key.cmp (values_of (K.given lent.now.snapshot.files)) K.make table → IfOk result (λ answer. IsDone answer → (k : K.Key) (f : ℕ) → K.is_input k ≡ false → K.asks_over table query.now budget k f → IsUpToDate (record { cmp = K.Key.cmp; given = K.given; make = K.make; ranked = K.ranked; serves = K.serves }) lent.now.snapshot.files fresh.new.memos lent.now.memos k f) }
+    ensures still { StaysUpToDate (record { cmp = K.Key.cmp; given = K.given; make = K.make; ranked = K.ranked; serves = K.serves }) lent.now.snapshot.files lent.now.memos fresh.old.memos fresh.new.memos }
 {
-    each_key_has_a_value::<K>();
-    no_key_has_two_values::<K>();
-    let mut from = Plain::new(&mut *kinds, snapshot);
-    let result = K::answer(alloc, query, budget, &mut from);
-    from.end();
-    match result {
+    let (answer, _never) = read_answer(alloc, kinds, lent, query, budget, fresh, Never);
+    match answer {
         Ok(answer) => Ok(answer),
-        Err(_) => Err(AllocError),
-    }
-}
-
-/// The value of a key at the files of a snapshot, which serves whoever asks with this fuel.
-///
-/// # Errors
-/// Only for want of memory.
-pub(crate) fn pinned_value<K: Ending>(
-    alloc: Global,
-    snapshot: &Snapshot<K>,
-    kinds: &mut K,
-    key: &K::Key,
-    fuel: u32,
-) -> Result<Arc<K::Value>, NoMemory>
-    requires { IsTrue (K.fits kinds.old snapshot.now.files) }
-    ensures fit { IsTrue (K.fits kinds.new snapshot.now.files) }
-    ensures value { IfOk result (λ v. IsValue K.Key.cmp (values_of (K.given snapshot.now.files)) K.make key.now fuel (arc_value v)) }
-{
-    let mut from = Plain::new(&mut *kinds, snapshot);
-    let result = from.fetch(alloc, key, fuel);
-    from.end();
-    match result {
-        Ok(value) => Ok(value),
         Err(_) => Err(AllocError),
     }
 }
