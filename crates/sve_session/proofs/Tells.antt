@@ -1,7 +1,7 @@
 -- What a commit is told, and what a snapshot shows, once the pass has met the log.
-use Rattle.std.proofs.Common.{◌≡◌, ℕ, ◌+◌, ◌≤◌, ◌<◌, List, [], ◌∷◌, ◌++◌, Option, Some, None, length, take, refl, ap, sym, ◌∙◌, subst, arith, append_assoc, length-append}
+use Rattle.std.proofs.Common.{◌≡◌, ℕ, ◌+◌, ◌≤◌, ◌<◌, List, [], ◌∷◌, ◌++◌, Option, Some, None, length, take, map, refl, ap, sym, ◌∙◌, subst, arith, append_assoc, length-append}
 use Rattle.std.specs.Prelude.{Contains}
-use Rattle.std.proofs.lemmas.List.{take_all}
+use Rattle.std.proofs.lemmas.List.{take_all, take-map, take-append-le}
 use Rattle.std.proofs.lemmas.List.Elements.{Contains-push}
 use mathlib.Core.List.{IsPrefix}
 use Rattle.sve_board.specs.declared.knowledge.Entry.{Entry as LogEntry}
@@ -13,20 +13,23 @@ use Rattle.sve_text.specs.declared.edit.Mode.{Mode}
 use Rattle.sve_text.specs.declared.why.Refusal.{Refusal}
 use Rattle.sve_text.specs.Files.{FilesValue}
 use Rattle.sve_text.specs.Refusals.{refusal_of}
+use Rattle.sve_history.specs.declared.entry.Entry.{Entry}
 use Rattle.sve_history.specs.Histories.{HistoryValue, Table, newest_files}
 use Rattle.sve_store.specs.declared.answer.Answer.{Answer}
 use Rattle.sve_store.specs.declared.answer.Answer.TheVariants.{Done, Spent as Unanswered}
 use Rattle.sve_store.specs.Snapshots.{SnapshotValue}
+use Rattle.sve_store.specs.Values.{IsDone}
 use Rattle.sve_core.specs.declared.commit.Commit.{Commit}
 use Rattle.sve_core.specs.declared.commit.Commit.TheVariants.{Accepted, Refused, Full}
-use Rattle.sve_core.specs.Asks.{snapshot_of, outcome_of}
+use Rattle.sve_core.specs.declared.commit.Outcome.{Outcome}
+use Rattle.sve_core.specs.Asks.{snapshot_of, outcome_of, history_at}
 use Rattle.sve_core.specs.Commits.{commit_told}
 use Rattle.sve_watch.specs.Looks.{looks_of, HasLooked}
 use Rattle.sve_watch.proofs.Seen.{looks_are}
-use Rattle.sve_session.specs.Shared.{history_of}
+use Rattle.sve_session.specs.Shared.{with_edits, history_of}
 use Rattle.sve_session.specs.Passes.{IsLater, IsReady, HasGoneOn}
 use Rattle.sve_session.specs.Commits.{entry, IsTold}
-use Rattle.sve_session.specs.Asks.{IsBegun, HasSeen, MayAnswer, IsOutcome}
+use Rattle.sve_session.specs.Asks.{IsBegun, HasSeen, MayAnswer, IsAnswered, IsOutcome}
 use Rattle.sve_session.specs.Meeting.{HasMet}
 use Rattle.sve_session.proofs.Meets.{with_entry, look_below}
 use Rattle.sve_session.proofs.Entries.{history_of-length}
@@ -61,6 +64,13 @@ module _ (x y : PassValue) (log : List LogEntry) (met : HasMet log x y) where
 
     pub base_within : (base : ℕ) → base ≤ length x.seen → base ≤ length history.entries
     base_within base le = omega (arith, le, ap length met.met.1, length-append x.seen met.met.0, long)
+
+    -- the history as it was at a revision that the pass had seen
+    pub base_history : (base : ℕ) → base ≤ length x.seen → history_at history base ≡ history_of opening table (take base x.seen)
+    base_history base le =
+        let first : take base log ≡ take base x.seen = ap (take base) (sym met.met.1) ∙ take-append-le base x.seen met.met.0 le in
+        let made : take base (map (with_edits table) log) ≡ map (with_edits table) (take base x.seen) = take-map (with_edits table) base log ∙ ap (map (with_edits table)) first in
+        ap (λ (h : HistoryValue). history_at h base) is ∙ ap (λ (entries : List Entry). let h : HistoryValue = record { opening = opening; entries = entries } in h) made
 
     module _ (most command : ℕ) where
       pub told_full : most ≤ length history.entries → length log ≤ most → IsTold opening table most command x y Full
@@ -145,3 +155,8 @@ pub told_answer : (answers : Answer → Type 0) (revision budget : ℕ) (mode : 
     → IsOutcome answers revision budget mode before after (outcome_of budget answer)
 told_answer answers revision budget mode before after (Done lines) is may = (is, may)
 told_answer answers revision budget mode before after Unanswered is may = (refl, is, may)
+
+-- and where it is answered, that is done
+pub answered_done : (budget : ℕ) (answer : Answer) (told : Outcome) → told ≡ outcome_of budget answer → IsAnswered told → IsDone answer
+answered_done budget (Done lines) told same is = tt
+answered_done budget Unanswered told same is = subst IsAnswered same is

@@ -36,6 +36,12 @@ abbrev pub MayAnswer : Mode → ℕ → PassValue → PassValue → Type 0
 MayAnswer Latest revision before after = SawNothingNewer revision before after
 MayAnswer Pinned revision before after = Unit {0}
 
+-- the ask has its answer: it was neither spent nor cancelled
+abbrev pub IsAnswered : Outcome → Type 0
+IsAnswered (Answered lines) = Unit {0}
+IsAnswered (Spent limit) = ⊥
+IsAnswered (Cancelled base newer) = ⊥
+
 -- What an ask at this revision is told, where these are its answers. It is cancelled exactly where it is in mode latest and looked up a later revision.
 abbrev pub IsOutcome : (Answer → Type 0) → ℕ → ℕ → Mode → PassValue → PassValue → Outcome → Type 0
 IsOutcome answers revision budget mode before after (Answered lines) = answers (Done lines) × MayAnswer mode revision before after

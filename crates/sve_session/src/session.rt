@@ -1,15 +1,18 @@
 //! Sessions and their calls.
-ghost use Rattle.std.specs.Prelude.{◌≡◌, ℕ, ◌<◌, ◌≤◌, ◌^◌, [], length, slice_get, Some, IfOk, OnErr, IsTrue};
+ghost use Rattle.std.specs.Prelude.{◌≡◌, ℕ, ◌<◌, ◌≤◌, ◌^◌, [], length, slice_get, Some, false, IfOk, OnErr, IsTrue};
 ghost use Rattle.sve_board.specs.Log.{largest};
 ghost use Rattle.sve_board.specs.Values.{PassValue};
 ghost use Rattle.sve_text.specs.declared.edit.Mode.TheVariants.{Pinned};
 ghost use Rattle.sve_history.specs.Histories.{IsOpening};
 ghost use Rattle.sve_store.specs.Made.{values_of};
-ghost use Rattle.sve_store.specs.Values.{IsAnswer};
+ghost use Rattle.sve_store.specs.Values.{IsTable, IsAnswer};
+ghost use Rattle.sve_ask.specs.Sound.{Defined, AllSound};
+ghost use Rattle.sve_ask.specs.Gains.{IsSettled};
+ghost use Rattle.sve_reader.specs.UpToDate.{IsUpToDate, StaysUpToDate};
 ghost use Rattle.sve_watch.specs.Looks.{HasLooked};
 ghost use Rattle.sve_session.specs.Passes.{IsLater, IsReady, HasGoneOn, IsNext};
 ghost use Rattle.sve_session.specs.Commits.{IsTold};
-ghost use Rattle.sve_session.specs.Asks.{IsBegun, HasSeen, IsOutcome};
+ghost use Rattle.sve_session.specs.Asks.{IsBegun, HasSeen, IsAnswered, IsOutcome};
 ghost use Rattle.sve_session.specs.Ends.{IsEnded, EndsPass};
 
 use crate::plan::Plan;
@@ -17,11 +20,12 @@ use crate::shared::Shared;
 use crate::work::outcome;
 use std::alloc::Global;
 use std::sync::{Mutex, Wait};
+use sve_ask::{Fresh, Lent};
 use sve_board::{Board, Pass, WriterSeat};
 use sve_bytes::NoMemory;
 use sve_core::{Commit, Outcome};
 use sve_history::History;
-use sve_store::{Ending, Fresh, Kinds, Snapshot};
+use sve_store::{Ending, Kinds};
 use sve_text::{Edit, Files, Mode};
 
 /// What clients share. Each client has its pass, and every call is made with one. The calls that take `rt` hold the
@@ -92,7 +96,8 @@ impl<K: Kinds, P: Plan> Session<K, P> {
             .commit(rt, alloc, &self.board, pass, self.most, command, edits)
     }
 
-    /// The newest revision, to be asked. The pass has then met the history up to it. It may wait for the lock.
+    /// The newest revision, to be asked, with the values that clients share as they are. The pass has then met the history up
+    /// to it. It may wait for the lock.
     ///
     /// # Errors
     /// Only for want of memory.
@@ -101,38 +106,41 @@ impl<K: Kinds, P: Plan> Session<K, P> {
         rt: &R,
         alloc: Global,
         pass: &mut Pass,
-    ) -> Result<Snapshot<K>, NoMemory>
+    ) -> Result<Lent<K>, NoMemory>
         requires { IsReady P.board.table pass.old }
         ensures later { IsLater pass.old pass.new }
         ensures ready { IsReady P.board.table pass.new }
         ensures mine { pass.new.mine ≡ pass.old.mine }
-        ensures begun { IfOk result (IsBegun P.opening P.table pass.old pass.new) }
+        ensures begun { IfOk result (λ lent. IsBegun P.opening P.table pass.old pass.new lent.snapshot) }
     {
         self.shared.lock(rt).begin(rt, alloc, &self.board, pass)
     }
 
-    /// Gives a snapshot back, with the values that were computed at it. Neither files nor history change. It may wait
-    /// for the lock.
+    /// Gives back what was lent, and publishes the values that were found at its revision, however far the history has grown:
+    /// of each key the clients share that one from then on, or the one that they shared, where that was verified later.
+    /// Neither files nor history change. It may wait for the lock.
     ///
     /// # Errors
-    /// Only for want of memory.
+    /// Only for want of memory; nothing is published then.
     pub fn finish<R: Wait>(
         &self,
         rt: &R,
+        alloc: Global,
         pass: &mut Pass,
-        snapshot: Snapshot<K>,
+        lent: Lent<K>,
         fresh: Fresh<K>,
     ) -> Result<(), NoMemory>
         requires pass { IsReady P.board.table pass.old }
-        requires seen { HasSeen P.opening P.table pass.old snapshot }
+        requires seen { HasSeen P.opening P.table pass.old lent.snapshot }
+        requires sound { ∥ AllSound (record { cmp = K.Key.cmp; given = K.given; make = K.make; ranked = K.ranked; serves = K.serves }) lent.snapshot.history fresh.memos ∥₁ }
         ensures later { IsLater pass.old pass.new }
         ensures ready { IsReady P.board.table pass.new }
         ensures mine { pass.new.mine ≡ pass.old.mine }
     {
-        let base = snapshot.revision();
+        let base = lent.snapshot().revision();
         self.shared
             .lock(rt)
-            .publish(rt, &self.board, pass, base, fresh)
+            .publish(rt, alloc, &self.board, pass, base, fresh)
     }
 
     /// Lets a pass meet the history, and with it one that may have been told of more. Its client is then not behind the
@@ -167,41 +175,53 @@ impl<K: Kinds, P: Plan> Session<K, P> {
 }
 
 impl<K: Ending, P: Plan> Session<K, P> {
-    /// Asks a query at a snapshot, within a budget. It is answered by the files of the snapshot, or `Spent` where the
-    /// query costs more than its budget there. In mode latest it looks at the board before it reads a value and once
-    /// more before it answers, and is cancelled where it sees a later revision; in mode pinned it never is. It computes
-    /// under the count of `kinds`, on condition that these may serve for the snapshot's files. It waits for nobody.
+    /// Asks a query at a revision that was lent, within a budget. It is answered by the files of the revision, or `Spent` where
+    /// the query costs more than its budget there. In mode latest it looks at the board before it brings a value up to date
+    /// and once more before it answers, and is cancelled where it sees a later revision; in mode pinned it never is.
+    ///
+    /// It reads through the values that were lent and the fresh ones, and keeps among these what it made current. It computes
+    /// under the count of `kinds` alone, on condition that these may serve for the revision's files; where all that the query
+    /// asks for is up to date it computes nothing, and where it is answered, all computed values that the query asks for are.
+    /// It waits for nobody.
     ///
     /// # Errors
     /// Only for want of memory.
     pub fn work(
         &self,
         alloc: Global,
-        snapshot: &Snapshot<K>,
+        lent: &Lent<K>,
         pass: &mut Pass,
         kinds: &mut K,
         query: &K::Query,
         budget: u32,
         mode: Mode,
-        _fresh: &mut Fresh<K>,
+        fresh: &mut Fresh<K>,
     ) -> Result<Outcome, NoMemory>
         requires pass { IsReady P.board.table pass.old }
-        requires seen { HasSeen P.opening P.table pass.old snapshot.now }
-        requires fit { IsTrue (K.fits kinds.old snapshot.now.files) }
+        requires seen { HasSeen P.opening P.table pass.old lent.now.snapshot }
+        requires fit { IsTrue (K.fits kinds.old lent.now.snapshot.files) }
+        requires sound { ∥ AllSound (record { cmp = K.Key.cmp; given = K.given; make = K.make; ranked = K.ranked; serves = K.serves }) lent.now.snapshot.history fresh.old.memos ∥₁ }
+        requires settled { ∥ IsSettled (record { cmp = K.Key.cmp; given = K.given; make = K.make; ranked = K.ranked; serves = K.serves }) lent.now.snapshot.files lent.now.snapshot.revision fresh.old.memos ∥₁ }
         ensures looked { HasLooked pass.old pass.new }
         ensures pinned { mode ≡ Pinned → pass.new ≡ pass.old }
-        ensures fit { IsTrue (K.fits kinds.new snapshot.now.files) }
-        ensures outcome { IfOk result (IsOutcome (IsAnswer K.Key.cmp (values_of (K.given snapshot.now.files)) K.make K.answer_over query.now budget) snapshot.now.revision budget mode pass.old pass.new) }
+        ensures fit { IsTrue (K.fits kinds.new lent.now.snapshot.files) }
+        ensures sound { ∥ AllSound (record { cmp = K.Key.cmp; given = K.given; make = K.make; ranked = K.ranked; serves = K.serves }) lent.now.snapshot.history fresh.new.memos ∥₁ }
+        ensures settled { ∥ IsSettled (record { cmp = K.Key.cmp; given = K.given; make = K.make; ranked = K.ranked; serves = K.serves }) lent.now.snapshot.files lent.now.snapshot.revision fresh.new.memos ∥₁ }
+        ensures outcome { IfOk result (IsOutcome (IsAnswer K.Key.cmp (values_of (K.given lent.now.snapshot.files)) K.make K.answer_over query.now budget) lent.now.snapshot.revision budget mode pass.old pass.new) }
+        ensures quiet { (table : K.Key → ℕ → K.Value) → IsTable K.Key.cmp (values_of (K.given lent.now.snapshot.files)) K.make table → ((k : K.Key) (f : ℕ) → K.asks_over table query.now budget k f → IsUpToDate (record { cmp = K.Key.cmp; given = K.given; make = K.make; ranked = K.ranked; serves = K.serves }) lent.now.snapshot.files fresh.old.memos lent.now.memos k f) → K.counted kinds.new ≡ K.counted kinds.old }
+        ensures done { (table : K.Key → ℕ → K.Value) → IsTable K.Key.cmp (values_of (K.given lent.now.snapshot.files)) K.make table → IfOk result (λ told. IsAnswered told → (k : K.Key) (f : ℕ) → K.is_input k ≡ false → K.asks_over table query.now budget k f → IsUpToDate (record { cmp = K.Key.cmp; given = K.given; make = K.make; ranked = K.ranked; serves = K.serves }) lent.now.snapshot.files fresh.new.memos lent.now.memos k f) }
+        ensures still { StaysUpToDate (record { cmp = K.Key.cmp; given = K.given; make = K.make; ranked = K.ranked; serves = K.serves }) lent.now.snapshot.files lent.now.memos fresh.old.memos fresh.new.memos }
     {
         outcome(
             alloc,
             &self.board,
-            snapshot,
+            lent,
             pass,
             kinds,
             query,
             budget,
             mode,
+            fresh,
         )
     }
 }

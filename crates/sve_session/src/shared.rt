@@ -1,7 +1,9 @@
 //! What lies under the lock.
-ghost use Rattle.std.specs.Prelude.{◌≡◌, ℕ, ◌+◌, ◌<◌, ◌≤◌, ◌^◌, List, [], ◌∷◌, ◌++◌, length, IfOk, OnErr, OnOk};
+ghost use Rattle.std.specs.Prelude.{◌≡◌, ℕ, ◌+◌, ◌<◌, ◌≤◌, ◌^◌, List, [], ◌∷◌, ◌++◌, length, take, IfOk, OnErr, OnOk};
 ghost use Rattle.sve_board.specs.Log.{entries_of, largest};
 ghost use Rattle.sve_history.specs.Histories.{IsOpening, IsLegal};
+ghost use Rattle.sve_ask.specs.Sound.{Defined, AllSound};
+ghost use Rattle.sve_kept.specs.Kept.{AreJoined};
 ghost use Rattle.sve_session.specs.Shared.{history_of};
 ghost use Rattle.sve_session.specs.Passes.{IsLater, IsReady, HasGoneOn, IsNext};
 ghost use Rattle.sve_session.specs.Commits.{entry, IsTold};
@@ -12,11 +14,12 @@ use crate::plan::Plan;
 use std::alloc::Global;
 use std::marker::PhantomData;
 use std::sync::Wait;
+use sve_ask::{Fresh, Lent};
 use sve_board::{Board, Pass, WriterSeat};
 use sve_bytes::NoMemory;
 use sve_core::{Commit, Core};
 use sve_history::History;
-use sve_store::{Fresh, Kinds, Snapshot};
+use sve_store::Kinds;
 use sve_text::{Edit, Files};
 
 /// The core, with the seat of whoever writes the log. The history of the core is that of the log.
@@ -101,30 +104,33 @@ impl<K: Kinds, P: Plan> Shared<K, P> {
         }
     }
 
-    /// A snapshot of the newest revision, all of which the pass has met.
+    /// The newest revision, all of which the pass has met, with the memos as they are.
     pub(crate) fn begin<R: Wait>(
         &mut self,
         rt: &R,
         alloc: Global,
         board: &Board,
         pass: &mut Pass,
-    ) -> Result<Snapshot<K>, NoMemory>
+    ) -> Result<Lent<K>, NoMemory>
         requires board { board.now ≡ P.board }
         requires pass { IsReady P.board.table pass.old }
         ensures later { IsLater pass.old pass.new }
         ensures ready { IsReady P.board.table pass.new }
         ensures mine { pass.new.mine ≡ pass.old.mine }
-        ensures begun { IfOk result (IsBegun P.opening P.table pass.old pass.new) }
+        ensures begun { IfOk result (λ lent. IsBegun P.opening P.table pass.old pass.new lent.snapshot) }
+        ensures memos { IfOk result (λ lent. lent.memos ≡ self.old.core.memos) }
+        ensures unchanged { self.new.core ≡ self.old.core }
     {
         let newest = self.core.history().len();
         meet_log(rt, board, &mut self.writer, pass, newest);
         self.core.begin(alloc)
     }
 
-    /// Takes the values that were computed at a snapshot that the pass has seen.
+    /// Joins what was found at a revision that the pass has seen to the memos that are kept.
     pub(crate) fn publish<R: Wait>(
         &mut self,
         rt: &R,
+        alloc: Global,
         board: &Board,
         pass: &mut Pass,
         base: u64,
@@ -133,13 +139,17 @@ impl<K: Kinds, P: Plan> Shared<K, P> {
         requires board { board.now ≡ P.board }
         requires pass { IsReady P.board.table pass.old }
         requires seen { base ≤ length pass.old.seen }
+        requires sound { ∥ AllSound (record { cmp = K.Key.cmp; given = K.given; make = K.make; ranked = K.ranked; serves = K.serves }) (history_of P.opening P.table (take base pass.old.seen)) fresh.memos ∥₁ }
         ensures later { IsLater pass.old pass.new }
         ensures ready { IsReady P.board.table pass.new }
         ensures mine { pass.new.mine ≡ pass.old.mine }
+        ensures history { self.new.core.history ≡ self.old.core.history }
+        ensures joined { OnOk result (AreJoined K.Key.cmp fresh.memos self.old.core.memos self.new.core.memos) }
+        ensures unchanged { OnErr result (self.new.core ≡ self.old.core) }
     {
         let length = self.core.history().len();
         meet_log(rt, board, &mut self.writer, pass, length);
-        self.core.publish(base, fresh)
+        self.core.publish(alloc, base, fresh)
     }
 
     /// Lets both passes meet the whole log.
