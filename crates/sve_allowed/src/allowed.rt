@@ -3,7 +3,7 @@ ghost use Rattle.std.specs.Prelude.{◌≡◌, ◌<◌, ◌^◌, ◌↔◌, Some
 ghost use Rattle.sve_text.specs.declared.why.Refusal.{Refusal};
 ghost use Rattle.sve_text.specs.Refusals.{refusal_of};
 ghost use Rattle.sve_history.specs.Histories.{newest_files};
-ghost use Rattle.sve_world.specs.Machine.{IsAllowed, MayCommit, MayBegin, MayLook, MayAsk, MayPublish};
+ghost use Rattle.sve_world.specs.Machine.{MayCome, MayCommit, MayBegin, MayLook, MayAsk, MayPublish};
 
 use sve_store::Start;
 use sve_text::{Edit, Mode, refusal};
@@ -87,9 +87,9 @@ fn may_ask<K: Start>(
     }
 }
 
-/// Whether the event may come. It takes no memory.
+/// Whether the event may come, whatever memos it brings. It takes no memory.
 pub fn allows<K: Start>(world: &World<K>, event: &Event<K>) -> bool
-    ensures { IsTrue result ↔ IsAllowed world.now event.now }
+    ensures { IsTrue result ↔ MayCome world.now event.now }
 {
     match event {
         EventOf::Commit {
