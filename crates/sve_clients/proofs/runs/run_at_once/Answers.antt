@@ -4,6 +4,9 @@ use denote.Param.Send.{sendable}
 use Rattle.sve_board.proofs.board.Board.TheSendSync as board
 use Rattle.sve_board.proofs.seats.WriterSeat.TheSendSync as writer
 use Rattle.sve_board.specs.Values.{PassValue}
+use Rattle.sve_memo.proofs.memo.Found.TheSendSync as found
+use Rattle.sve_memo.proofs.memo.Memo.TheSendSync as memo
+use Rattle.sve_memo.proofs.tree.Tree.TheLaws.TheKnot as memos
 use Rattle.sve_clients.proofs.Crossing.{history_send}
 use Rattle.sve_clients.specs.Runs.{HasRun, HasDone}
 use Rattle.sve_clients.proofs.Places.{passes-length, pass_at, new_ready, new_none, get_read, done, all_done}
@@ -24,10 +27,14 @@ map_vec-requires-sync-F g c κs within =
     let send-K = bounds.send-K in
     let send-P = bounds.send-P in
     let sync-K = bounds.sync-K in
+    let send-Key = bounds.send-K-Key in
+    let sync-Key = bounds.sync-K-Key in
+    let send-Value = bounds.send-K-Value in
+    let sync-Value = bounds.sync-K-Value in
     let sync-P = bounds.sync-P in
     let sync-C = bounds.sync-C in
     let sync-R = bounds.sync-R in
-    search (sendable, crosses, board.the_sync, writer.the_send, history_send) depth 40 fits 200000
+    search (sendable, crosses, board.the_sync, writer.the_send, history_send, found.the_send, found.the_sync, memo.the_send, memo.the_sync, memos.crosses, memos.crosses_both) depth 40 fits 200000
 
 pub returns-clause-count : goal.returns-clause-count
 returns-clause-count g c =
