@@ -1,13 +1,13 @@
 //! How an instance connects ports, as text.
 use crate::around::Names;
 use std::alloc::Global;
-use std::slice;
 use sve_around::Surroundings;
 use sve_bytes::{Name, NoMemory};
 use sve_connect::{Connected, Net, Pair, connect};
 use sve_facts::Port;
 use sve_row::{add_number, spell};
 use sve_row_element::{element_of, notes_text};
+use sve_scope::Enclosing;
 use sve_tree::{ArgumentList, Element, Item, Word};
 
 /// The module with an instance of these arguments.
@@ -95,12 +95,14 @@ fn connected_beside(
     names: &Names,
 ) -> Result<String, NoMemory> {
     let scope = &names.scope;
+    let outer = Enclosing::new(alloc);
     let around = Surroundings {
         alloc,
         file: &scope.file,
         chunk: 0,
         words,
-        chain: slice::from_ref(scope),
+        scope,
+        around: &outer,
         packages: &names.packages,
         at: 4,
         instances: &names.faces,

@@ -3,17 +3,19 @@ use crate::kinds::what_of;
 use crate::spelled::{
     add_entered, add_found, add_place, name_at, number_at, part, taken_at, word_at,
 };
-use std::alloc::{AllocError, Global};
+use std::alloc::Global;
+use std::mem;
 use std::sync::Arc;
 use sve_bytes::{Name, NoMemory};
 use sve_row::name_of;
-use sve_scope::{Declared, Entered, Explicit, Scope, Spot, Wildcard, lookup};
+use sve_scope::{Declared, Enclosing, Entered, Explicit, Found, Scope, Spot, Wildcard, lookup};
 use sve_table::Table;
 
-/// The scopes so far, the innermost first, and the chunk in which the text stands that comes next.
+/// The scopes so far, and the chunk in which the text stands that comes next.
 #[derive(Drop)]
 pub struct Chain {
-    scopes: Vec<Scope>,
+    here: Option<Scope>,
+    around: Enclosing<Scope>,
     file: Name,
     chunk: u32,
 }
@@ -23,7 +25,8 @@ impl Chain {
     pub fn new(alloc: Global) -> Result<Option<Chain>, NoMemory> {
         match name_of(alloc, b"a.sv")? {
             Some(file) => Ok(Some(Chain {
-                scopes: Vec::new(alloc),
+                here: None,
+                around: Enclosing::new(alloc),
                 file,
                 chunk: 0,
             })),
@@ -39,9 +42,20 @@ impl Chain {
 
     /// Opens a scope inside of the others.
     fn open(&mut self, scope: Scope) -> Result<(), NoMemory> {
-        match self.scopes.insert(0, scope) {
-            Ok(()) => Ok(()),
-            Err(_) => Err(AllocError),
+        match mem::replace(&mut self.here, Some(scope)) {
+            Some(outer) => self.around.enter(outer),
+            None => Ok(()),
+        }
+    }
+
+    /// Ends the innermost scope, and answers whether there is one around it.
+    fn leave(&mut self) -> bool {
+        match self.around.leave() {
+            Some(outer) => {
+                self.here = Some(outer);
+                true
+            }
+            None => false,
         }
     }
 
@@ -54,13 +68,24 @@ impl Chain {
         })
     }
 
+    /// What a name stands for at a token of the innermost scope.
+    fn found(&self, name: &Name, token: u32) -> Found<'_> {
+        match &self.here {
+            Some(here) => lookup(here, &self.around, name, token),
+            None => Found::None,
+        }
+    }
+
     /// Notes that a use took a name through an import of all names in the scope at a place.
     fn take(&mut self, place: Option<usize>, name: &Name) -> Result<(), NoMemory> {
-        match place {
-            Some(place) => match self.scopes.get_mut(place) {
-                Some(scope) => scope.take(name),
-                None => Ok(()),
-            },
+        let Some(place) = place else {
+            return Ok(());
+        };
+        if place > 0 {
+            return self.around.take(place - 1, name);
+        }
+        match &mut self.here {
+            Some(scope) => scope.take(name),
             None => Ok(()),
         }
     }
@@ -86,6 +111,11 @@ pub fn scope_step(alloc: Global, chain: &mut Chain, words: &[&str]) -> Result<bo
     let scope = Scope::new(alloc, chain.file.copy()?, chain.chunk);
     chain.open(scope)?;
     Ok(true)
+}
+
+/// Step `leave`.
+pub fn leave_step(chain: &mut Chain) -> bool {
+    chain.leave()
 }
 
 /// The declaration of a name of this kind.
@@ -124,7 +154,7 @@ fn declared_of(alloc: Global, chain: &Chain, words: &[&str]) -> Result<Option<De
 
 /// Declares something in the innermost scope.
 fn declare(chain: &mut Chain, declared: Declared) -> Result<Option<Entered>, NoMemory> {
-    match chain.scopes.first_mut() {
+    match &mut chain.here {
         Some(scope) => Ok(Some(scope.declare(declared)?)),
         None => Ok(None),
     }
@@ -171,7 +201,7 @@ fn explicit_of(alloc: Global, chain: &Chain, words: &[&str]) -> Result<Option<Ex
 
 /// Imports one name into the innermost scope.
 fn import(chain: &mut Chain, import: Explicit) -> Result<Option<Entered>, NoMemory> {
-    match chain.scopes.first_mut() {
+    match &mut chain.here {
         Some(scope) => Ok(Some(scope.import_name(import)?)),
         None => Ok(None),
     }
@@ -215,7 +245,7 @@ fn wildcard_of(alloc: Global, chain: &Chain, words: &[&str]) -> Result<Option<Wi
 
 /// Imports all names of a package into the innermost scope.
 fn import_all(chain: &mut Chain, import: Wildcard) -> Result<Option<Entered>, NoMemory> {
-    match chain.scopes.first_mut() {
+    match &mut chain.here {
         Some(scope) => {
             if scope.import_all(import)? {
                 Ok(Some(Entered::New))
@@ -242,7 +272,7 @@ pub fn all_step(
 
 /// Adds what a name stands for at a token.
 fn use_at(chain: &mut Chain, out: &mut String, name: &Name, token: u32) -> Result<(), NoMemory> {
-    let found = lookup(&chain.scopes, name, token);
+    let found = chain.found(name, token);
     add_found(out, found)?;
     let place = taken_at(found);
     chain.take(place, name)
@@ -269,7 +299,7 @@ pub fn use_step(
 
 /// Adds what a name stands for behind `::`, or answers that there is no scope.
 fn add_member(chain: &Chain, out: &mut String, name: &Name) -> Result<bool, NoMemory> {
-    let Some(scope) = chain.scopes.first() else {
+    let Some(scope) = &chain.here else {
         return Ok(false);
     };
     part(out)?;

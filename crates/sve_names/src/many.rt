@@ -2,10 +2,11 @@
 //! in a chain, each but the outermost with an import of all names of a package that lacks the name, and looks the name up so many
 //! times. The answer is how many were found.
 use std::alloc::{AllocError, Global};
+use std::mem;
 use std::sync::Arc;
 use sve_bytes::{Name, NoMemory};
 use sve_row::{add_number, name_of, number_of, word};
-use sve_scope::{Declared, Found, Scope, Spot, What, Wildcard, lookup};
+use sve_scope::{Declared, Enclosing, Found, Scope, Spot, What, Wildcard, lookup};
 use sve_table::Table;
 
 /// The most names, scopes and uses of a row.
@@ -51,14 +52,18 @@ fn scope_of(alloc: Global, file: &Name, count: usize) -> Result<Scope, NoMemory>
     Ok(scope)
 }
 
+/// A scope and those around it.
+#[derive(Drop)]
+struct Nest {
+    here: Scope,
+    around: Enclosing<Scope>,
+}
+
 /// One if the name of this number is found, else none.
-fn found(alloc: Global, chain: &[Scope], number: usize) -> Result<usize, NoMemory> {
+fn found(alloc: Global, nest: &Nest, number: usize) -> Result<usize, NoMemory> {
     let name = numbered(alloc, "x", number)?;
-    Ok(if matches!(lookup(chain, &name, 1), Found::None) {
-        0
-    } else {
-        1
-    })
+    let found = lookup(&nest.here, &nest.around, &name, 1);
+    Ok(if matches!(found, Found::None) { 0 } else { 1 })
 }
 
 /// A number as an answer.
@@ -71,11 +76,13 @@ pub fn number_answer(alloc: Global, number: usize) -> Result<Option<String>, NoM
 /// The answer to a row `declared`.
 fn declared_row(alloc: Global, count: usize) -> Result<Option<String>, NoMemory> {
     let file = numbered(alloc, "f", 0)?;
-    let mut chain = Vec::new(alloc);
-    chain.push(scope_of(alloc, &file, count)?)?;
+    let nest = Nest {
+        here: scope_of(alloc, &file, count)?,
+        around: Enclosing::new(alloc),
+    };
     let mut sum: usize = 0;
     for number in 0..count {
-        sum = sum.wrapping_add(found(alloc, &chain, number)?);
+        sum = sum.wrapping_add(found(alloc, &nest, number)?);
     }
     number_answer(alloc, sum)
 }
@@ -98,22 +105,26 @@ fn importing(alloc: Global, file: &Name, number: usize) -> Result<Scope, NoMemor
 }
 
 /// So many scopes, of which the outermost has one name.
-fn chain_of(alloc: Global, count: usize) -> Result<Vec<Scope>, NoMemory> {
+fn nest_of(alloc: Global, count: usize) -> Result<Nest, NoMemory> {
     let file = numbered(alloc, "f", 0)?;
-    let mut chain = Vec::new(alloc);
+    let mut nest = Nest {
+        here: scope_of(alloc, &file, 1)?,
+        around: Enclosing::new(alloc),
+    };
     for number in 1..count {
-        chain.push(importing(alloc, &file, number)?)?;
+        let inner = importing(alloc, &file, number)?;
+        let outer = mem::replace(&mut nest.here, inner);
+        nest.around.enter(outer)?;
     }
-    chain.push(scope_of(alloc, &file, 1)?)?;
-    Ok(chain)
+    Ok(nest)
 }
 
 /// The answer to a row `scopes`.
 fn scopes_row(alloc: Global, count: usize, uses: usize) -> Result<Option<String>, NoMemory> {
-    let chain = chain_of(alloc, count)?;
+    let nest = nest_of(alloc, count)?;
     let mut sum: usize = 0;
     for _ in 0..uses {
-        sum = sum.wrapping_add(found(alloc, &chain, 0)?);
+        sum = sum.wrapping_add(found(alloc, &nest, 0)?);
     }
     number_answer(alloc, sum)
 }

@@ -10,9 +10,11 @@
 //! - `use NAME TOKEN`: a use in the innermost scope. The answer is `FILE:CHUNK:TOKEN` of a declaration; `PACKAGE::NAME`, and behind
 //!   it `*N` where it came through an import of all names in scope N of the chain; `PACKAGE or PACKAGE`; or `nothing`. An import of
 //!   all names has then taken effect.
+//! - `leave`: the innermost scope ends, and what follows stands in the one around it.
 //! - `member NAME`: what `p::NAME` stands for where the innermost scope is that of `p`: a place, or `nothing`.
 use crate::chain::{
-    Chain, all_step, declare_step, import_step, member_step, scope_step, text_step, use_step,
+    Chain, all_step, declare_step, import_step, leave_step, member_step, scope_step, text_step,
+    use_step,
 };
 use crate::many::many_row;
 use crate::packages::rounds_row;
@@ -65,6 +67,7 @@ fn did_step(
         "import" => import_step(alloc, chain, out, &words),
         "all" => all_step(alloc, chain, out, &words),
         "use" => use_step(alloc, chain, out, &words),
+        "leave" => Ok(leave_step(chain)),
         "member" => member_step(alloc, chain, out, &words),
         _ => Ok(false),
     }
