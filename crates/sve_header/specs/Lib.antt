@@ -1,0 +1,4 @@
+pub mod Coming
+pub mod Imports
+pub mod Parameters
+pub mod Ports
