@@ -30,8 +30,9 @@ use Rattle.sve_report.specs.declared.entry.Entry.{Entry}
 use Rattle.sve_report.specs.declared.record.Record.{Record}
 use Rattle.sve_report.specs.declared.record.Record.TheVariants.{Accepted, Refused, Answered, Cancelled, Spent}
 use Rattle.sve_runner.specs.declared.terms.Terms.{Terms}
+use Rattle.sve_runner.specs.declared.told.Told.{Told}
 use Rattle.sve_runner.specs.Honest.{budget_under, commands_at, command_in, edits_in, told_entry, told_entries, script_entries, front_after, front_at, accepted_from, is_commit, IsOfScript, files_of, IsHonest, Walks, AreHonestFrom, AreHonest}
-use Rattle.sve_runner.specs.Told.{IsHonestIn, WalksIn, HasWalked, HasLeft, all_told}
+use Rattle.sve_runner.specs.Told.{IsHonestIn, WalksIn, HasWalked, HasLeft, all_told, records_of, records_told}
 use Rattle.sve_runner.specs.declared.stop.Stop.{Stop}
 use Rattle.sve_runner.specs.declared.stop.Stop.TheVariants.{Full}
 use Rattle.sve_runner.proofs.Counts.{AreAtMost, all_entries, tally_fewer}
@@ -79,24 +80,25 @@ module _ (table : Table) where
 
 -- ---- what clients left, by their places
 
-left_at : (lefts : List (Result (List Record) Stop)) (k : ℕ) → k < length lefts → (left : Result (List Record) Stop) × (slice_get lefts k ≡ Some left)
+left_at : (lefts : List (Result Told Stop)) (k : ℕ) → k < length lefts → (left : Result Told Stop) × (slice_get lefts k ≡ Some left)
 left_at [] k lt = absurd (omega (arith, lt))
 left_at (x ∷ lefts) zero lt = (x, refl)
 left_at (x ∷ lefts) (suc k) lt = left_at lefts k (omega (arith, lt))
 
-is_there : (lefts : List (Result (List Record) Stop)) (k : ℕ) (left : Result (List Record) Stop) → slice_get lefts k ≡ Some left → k < length lefts
+is_there : (lefts : List (Result Told Stop)) (k : ℕ) (left : Result Told Stop) → slice_get lefts k ≡ Some left → k < length lefts
 is_there [] k left at = absurd (cc)
 is_there (x ∷ lefts) zero left at = omega arith
 is_there (x ∷ lefts) (suc k) left at = omega (arith, is_there lefts k left at)
 
-all_told-length : (records : List (List Record)) → length (all_told records) ≡ length records
+all_told-length : (all : List Told) → length (all_told all) ≡ length all
 all_told-length [] = refl
-all_told-length (recs ∷ records) = ap suc (all_told-length records)
+all_told-length (told ∷ all) = ap suc (all_told-length all)
 
-told_at : (records : List (List Record)) (m : ℕ) (recs : List Record) → slice_get records m ≡ Some recs → slice_get (all_told records) m ≡ Some (Ok recs)
+-- whose records these are, and what it left
+told_at : (all : List Told) (m : ℕ) (recs : List Record) → slice_get (records_told all) m ≡ Some recs → (told : Told) × (slice_get (all_told all) m ≡ Some (Ok told)) × (told.records ≡ recs)
 told_at [] m recs at = absurd (cc)
-told_at (r ∷ records) zero recs at = let same : r ≡ recs = cc in ap (λ (x : List Record). Some (Ok x)) same
-told_at (r ∷ records) (suc m) recs at = told_at records m recs at
+told_at (told ∷ all) zero recs at = (told, refl, cc)
+told_at (told ∷ all) (suc m) recs at = told_at all m recs at
 
 -- ---- entries are of commits
 
@@ -235,36 +237,37 @@ module _ (answers : FilesValue → Query → ℕ → Answer → Type 0) (terms :
       subst (AllByRecursion (IsCommit clients i)) (sym one.own ∙ ap (commands_of i) (script_made ∙ made) ∙ commands_are (edits_in clients) i (log_of history.entries)) all))
 
   -- what a client may leave beside its pass
-  abbrev pub Leaves : ℕ → ℕ → ℕ → PassValue → Result (List Record) Stop → Type 0
+  abbrev pub Leaves : ℕ → ℕ → ℕ → PassValue → Result Told Stop → Type 0
   Leaves most number front pass left = HasLeft answers terms opening (edits_in clients) most number front (commands_at clients number) pass left
 
   -- the records of a client that left them, from any front that it reached
-  left_one : (most i : ℕ) (recs : List Record) → HasLeftWith (Leaves most) history i 0 (Ok recs) → IsOne i recs
-  left_one most i recs left = is_one i left.pass recs left.who left.ends (left.does 0 (omega arith)).does
+  left_one : (most i : ℕ) (told : Told) → HasLeftWith (Leaves most) history i 0 (Ok told) → IsOne i told.records
+  left_one most i told left = is_one i left.pass told.records left.who left.ends (left.does 0 (omega arith)).does
 
   next_reached : (order : Order) (front top : ℕ) → front ≤ top → next_front order front ≤ next_front order top
   next_reached AtOnce front top le = omega arith
   next_reached InTurn front top le = le
 
-  honest_from : (most i front top : ℕ) (rest : List (List Command)) (records : List (List Record)) → front ≤ top → length records ≡ length rest → ((m : ℕ) → m < length rest → commands_at clients (i + m) ≡ slice_index_or rest m [])
-      → HaveLeftWith (Leaves most) terms.order history i top (all_told records) → AreHonestFrom answers terms opening clients (told_entries history) i front rest records
-  honest_from most i front top [] [] le count are all = tt
-  honest_from most i front top [] (recs ∷ records) le count are all = absurd (omega (arith, count))
-  honest_from most i front top (commands ∷ rest) [] le count are all = absurd (omega (arith, count))
-  honest_from most i front top (commands ∷ rest) (recs ∷ records) le count are (one, others) =
-      let told = (one.does front le).does in
+  honest_from : (most i front top : ℕ) (rest : List (List Command)) (all : List Told) → front ≤ top → length all ≡ length rest → ((m : ℕ) → m < length rest → commands_at clients (i + m) ≡ slice_index_or rest m [])
+      → HaveLeftWith (Leaves most) terms.order history i top (all_told all) → AreHonestFrom answers terms opening clients (told_entries history) i front rest (records_told all)
+  honest_from most i front top [] [] le count are left = tt
+  honest_from most i front top [] (told ∷ all) le count are left = absurd (omega (arith, count))
+  honest_from most i front top (commands ∷ rest) [] le count are left = absurd (omega (arith, count))
+  honest_from most i front top (commands ∷ rest) (told ∷ all) le count are (one, others) =
+      let recs : List Record = told.records in
+      let walked = (one.does front le).does in
       let here : i + 0 ≡ i = omega arith in
       let its : commands_at clients i ≡ commands = ap (commands_at clients) (sym here) ∙ are 0 (omega arith) in
       let next : (m : ℕ) → i + suc m ≡ i + 1 + m = λ m. omega arith in (
         subst (λ (cs : List Command). Walks answers terms opening clients (told_entries history) i 1 front cs recs) its
-            (walks i 1 front (commands_at clients i) recs (walks_later answers terms opening (edits_in clients) one.pass.seen (log_of history.entries) (largest one.pass.looks) (length history.entries) i 1 front (commands_at clients i) recs one.ends.seen one.ends.looks told.walks)),
-        its_own_entries i one.pass recs one.who one.ends told.own,
-        honest_from most (i + 1) (next_front terms.order (front_at front recs)) (next_front terms.order (largest one.pass.looks)) rest records (next_reached terms.order (front_at front recs) (largest one.pass.looks) told.reached) (omega (arith, count))
+            (walks i 1 front (commands_at clients i) recs (walks_later answers terms opening (edits_in clients) one.pass.seen (log_of history.entries) (largest one.pass.looks) (length history.entries) i 1 front (commands_at clients i) recs one.ends.seen one.ends.looks walked.walks)),
+        its_own_entries i one.pass recs one.who one.ends walked.own,
+        honest_from most (i + 1) (next_front terms.order (front_at front recs)) (next_front terms.order (largest one.pass.looks)) rest all (next_reached terms.order (front_at front recs) (largest one.pass.looks) walked.reached) (omega (arith, count))
             (λ m lt. ap (commands_at clients) (sym (next m)) ∙ are (suc m) (omega (arith, lt))) others,
       )
 
-  module _ (most : ℕ) (lefts : List (Result (List Record) Stop)) (count : length lefts ≡ length clients) (all : HaveLeftWith (Leaves most) terms.order history 1 0 lefts) where
-    each : (i : ℕ) (left : Result (List Record) Stop) → slice_get lefts i ≡ Some left → HasLeftWith (Leaves most) history (1 + i) 0 left
+  module _ (most : ℕ) (lefts : List (Result Told Stop)) (count : length lefts ≡ length clients) (all : HaveLeftWith (Leaves most) terms.order history 1 0 lefts) where
+    each : (i : ℕ) (left : Result Told Stop) → slice_get lefts i ≡ Some left → HasLeftWith (Leaves most) history (1 + i) 0 left
     each i left at = left_from (Leaves most) terms.order history 1 0 lefts all i left at
 
     -- no client has more entries than commands
@@ -292,12 +295,15 @@ module _ (answers : FilesValue → Query → ℕ → Answer → Type 0) (terms :
         absurd (omega (arith, cause.1, enough, prefix_length left.pass.seen (log_of history.entries) left.ends.seen, all_entries (length clients) (log_of history.entries) ended.theirs, tally_fewer 1 clients (log_of history.entries) i few lt fewer))
 
     -- where all clients left their records, these are honest
-    pub all_honest : (records : List (List Record)) → lefts ≡ all_told records → AreHonest answers terms opening clients (told_entries history) records
-    all_honest records told =
-        let size : length records ≡ length clients = omega (arith, count, ap (λ (l : List (Result (List Record) Stop)). length l) told, all_told-length records) in
+    pub all_honest : (told : List Told) → lefts ≡ all_told told → AreHonest answers terms opening clients (told_entries history) (records_told told)
+    all_honest told are =
+        let size : length told ≡ length clients = omega (arith, count, ap (λ (l : List (Result Told Stop)). length l) are, all_told-length told) in
+        let records_size : length (records_told told) ≡ length clients = length-map told records_of ∙ size in
         record {
           legal = subst (λ (l : List Made). IsLegal (record { opening = opening; entries = l })) (sym (script_made ∙ made)) (subst IsLegal ended.plan ended.legal);
-          theirs = are_theirs records size (λ m recs at. left_one most (1 + m) recs (each m (Ok recs) (ap (λ (l : List (Result (List Record) Stop)). slice_get l m) told ∙ told_at records m recs at)));
-          told = honest_from most 1 0 0 clients records (omega arith) size (λ m lt. ap (λ (k : ℕ). slice_index_or clients k []) (let e : 1 + m - 1 ≡ m = omega arith in e))
-              (subst (HaveLeftWith (Leaves most) terms.order history 1 0) told all);
+          theirs = are_theirs (records_told told) records_size (λ m recs at.
+              let found = told_at told m recs at in
+              subst (IsOne (1 + m)) found.2 (left_one most (1 + m) found.0 (each m (Ok found.0) (ap (λ (l : List (Result Told Stop)). slice_get l m) are ∙ found.1))));
+          told = honest_from most 1 0 0 clients told (omega arith) size (λ m lt. ap (λ (k : ℕ). slice_index_or clients k []) (let e : 1 + m - 1 ≡ m = omega arith in e))
+              (subst (HaveLeftWith (Leaves most) terms.order history 1 0) are all);
         }

@@ -26,6 +26,7 @@ use Rattle.sve_report.specs.declared.record.Record.TheVariants.{Accepted, Refuse
 use Rattle.sve_runner.specs.declared.stop.Stop.{Stop}
 use Rattle.sve_runner.specs.declared.stop.Stop.TheVariants.{Full, NoMemory}
 use Rattle.sve_runner.specs.declared.terms.Terms.{Terms}
+use Rattle.sve_runner.specs.declared.told.Told.{Told}
 use Rattle.sve_runner.specs.Honest.{budget_under, mode_under, front_after, front_at, accepted_from}
 
 -- the answers that kinds with these values of inputs, these definitions of values and these answers over values have
@@ -51,9 +52,22 @@ entered i j (Answered r lines) = []
 entered i j (Cancelled base newer) = []
 entered i j (Spent r budget) = []
 
--- records that were told, of all clients
-abbrev pub all_told : List (List Record) → List (Result (List Record) Stop)
-all_told records = map (λ recs. Ok recs) records
+-- what all clients left, where this is what they were told
+abbrev pub all_told : List Told → List (Result Told Stop)
+all_told all = map (λ told. Ok told) all
+
+-- their records, and their counts
+abbrev pub records_of : Told → List Record
+records_of told = told.records
+
+abbrev pub counts_of : Told → List ℕ
+counts_of told = told.counts
+
+abbrev pub records_told : List Told → List (List Record)
+records_told all = map records_of all
+
+abbrev pub counts_told : List Told → List (List ℕ)
+counts_told all = map counts_of all
 
 -- why a client left its commands, beside its pass: it has fewer entries than commands, and has seen as many as a history may have, or memory was wanting
 abbrev pub HasCause : ℕ → List Command → PassValue → Stop → Type 0
@@ -99,6 +113,6 @@ module _ (answers : FilesValue → Query → ℕ → Answer → Type 0) (terms :
     pub own : map (λ e. e.command) pass.mine ≡ accepted_from 1 recs
 
   -- what client i leaves, from this front on, where a history may have so many entries: all that it was told, or why it left its commands
-  pub record HasLeft (most i front : ℕ) (commands : List Command) (pass : PassValue) (left : Result (List Record) Stop) : Type 0 where
+  pub record HasLeft (most i front : ℕ) (commands : List Command) (pass : PassValue) (left : Result Told Stop) : Type 0 where
     pub few : length pass.mine ≤ length commands
-    pub does : MatchResult left (HasWalked i front commands pass) (HasCause most commands pass)
+    pub does : MatchResult left (λ told. HasWalked i front commands pass told.records) (HasCause most commands pass)

@@ -10,15 +10,25 @@ ghost use Rattle.sve_runner.specs.Told.{answers_by, outcome_record, IsTold, HasW
 use crate::gate::{Gate, Point};
 use crate::stop::Stop;
 use crate::terms::Terms;
+use crate::told::Told;
 use std::alloc::Global;
 use std::sync::Wait;
+use sve_ask::Fresh;
 use sve_board::Pass;
 use sve_bytes::{List, NoMemory};
 use sve_command::{Command, Query};
+use sve_reader::laws::an_ask_may_begin;
 use sve_report::Record;
 use sve_session::{Commit, Outcome, Plan, Session};
-use sve_store::{Fresh, Kinds, Start};
+use sve_store::Start;
 use sve_text::{Edit, Mode};
+
+/// What a command was told, and how many values it computed.
+#[derive(Drop)]
+struct Step {
+    told: Record,
+    computes: u64,
+}
 
 /// Runs the commands of the pass's client, which has no entry yet. It is told of no revision below one that the pass was
 /// told of before.
@@ -34,7 +44,7 @@ pub(crate) fn run_commands<K, P, R, G>(
     commands: &[Command],
     terms: Terms,
     gate: &G,
-) -> Result<List<Record>, Stop>
+) -> Result<Told, Stop>
 where
     K: Start<Query = Query>,
     P: Plan,
@@ -46,23 +56,30 @@ where
     requires edits { (j : ℕ) → edits_in_command (slice_get commands.now j) ≡ P.table pass.old.number (j + 1) }
     ensures ready { IsReady P.board.table pass.new }
     ensures number { pass.new.number ≡ pass.old.number }
-    ensures told { IfOk result (λ recs. (front : ℕ) → front ≤ largest pass.old.looks → HasWalked (answers_by K.Key.cmp K.given K.make K.answer_over) terms P.opening P.table pass.old.number front commands.now pass.new recs) }
+    ensures told { IfOk result (λ told. (front : ℕ) → front ≤ largest pass.old.looks → HasWalked (answers_by K.Key.cmp K.given K.make K.answer_over) terms P.opening P.table pass.old.number front commands.now pass.new told.records) }
     ensures few { length pass.new.mine ≤ length commands.now }
     ensures full { IsErrOf result Stop.Full → (length pass.new.mine < length commands.now) × (length pass.new.seen ≡ P.most) }
 {
     let mut records = Vec::new(alloc);
+    let mut counts = Vec::new(alloc);
     for (j, command) in commands.iter().enumerate() {
         let number = j as u32 + 1;
-        let told = run_command(rt, alloc, session, pass, number, command, terms, gate)?;
-        keep(&mut records, told)?;
+        let step = run_command(rt, alloc, session, pass, number, command, terms, gate)?;
+        keep(&mut records, &mut counts, step)?;
     }
-    Ok(List::of(records))
+    Ok(Told {
+        records: List::of(records),
+        counts: List::of(counts),
+    })
 }
 
-fn keep(records: &mut Vec<Record>, told: Record) -> Result<(), NoMemory>
-    ensures { OnOk result (records.new.items ≡ records.old.items ++ told ∷ []) }
+fn keep(records: &mut Vec<Record>, counts: &mut Vec<u64>, step: Step) -> Result<(), NoMemory>
+    ensures records { OnOk result (records.new.items ≡ records.old.items ++ step.told ∷ []) }
+    ensures counts { OnOk result (counts.new.items ≡ counts.old.items ++ step.computes ∷ []) }
 {
+    let Step { told, computes } = step;
     records.push(told)?;
+    counts.push(computes)?;
     Ok(())
 }
 
@@ -76,7 +93,7 @@ fn run_command<K, P, R, G>(
     command: &Command,
     terms: Terms,
     gate: &G,
-) -> Result<Record, Stop>
+) -> Result<Step, Stop>
 where
     K: Start<Query = Query>,
     P: Plan,
@@ -88,7 +105,7 @@ where
     requires edits { edits_in_command (Some command.now) ≡ P.table pass.old.number number }
     ensures later { IsLater pass.old pass.new }
     ensures ready { IsReady P.board.table pass.new }
-    ensures told { IfOk result (IsTold (answers_by K.Key.cmp K.given K.make K.answer_over) terms P.opening P.table pass.old.number number command.now pass.old pass.new) }
+    ensures told { IfOk result (λ step. IsTold (answers_by K.Key.cmp K.given K.make K.answer_over) terms P.opening P.table pass.old.number number command.now pass.old pass.new step.told) }
     ensures unchanged { OnErr result (pass.new.mine ≡ pass.old.mine) }
     ensures full { IsErrOf result Stop.Full → length pass.new.seen ≡ P.most }
 {
@@ -121,7 +138,7 @@ fn run_commit<K, P, R>(
     number: u32,
     edits: &[Edit],
     _terms: Terms,
-) -> Result<Record, Stop>
+) -> Result<Step, Stop>
 where
     K: Start<Query = Query>,
     P: Plan,
@@ -132,18 +149,24 @@ where
     requires edits { edits.now ≡ P.table pass.old.number number }
     ensures later { IsLater pass.old pass.new }
     ensures ready { IsReady P.board.table pass.new }
-    ensures told { IfOk result (IsTold (answers_by K.Key.cmp K.given K.make K.answer_over) _terms P.opening P.table pass.old.number number (Commits edits.now) pass.old pass.new) }
+    ensures told { IfOk result (λ step. IsTold (answers_by K.Key.cmp K.given K.make K.answer_over) _terms P.opening P.table pass.old.number number (Commits edits.now) pass.old pass.new step.told) }
     ensures unchanged { OnErr result (pass.new.mine ≡ pass.old.mine) }
     ensures full { IsErrOf result Stop.Full → length pass.new.seen ≡ P.most }
 {
     match session.commit(rt, alloc, pass, number, edits)? {
-        Commit::Accepted { r } => Ok(Record::Accepted { r }),
-        Commit::Refused { r, edit, why } => Ok(Record::Refused { r, edit, why }),
+        Commit::Accepted { r } => Ok(Step {
+            told: Record::Accepted { r },
+            computes: 0,
+        }),
+        Commit::Refused { r, edit, why } => Ok(Step {
+            told: Record::Refused { r, edit, why },
+            computes: 0,
+        }),
         Commit::Full => Err(Stop::Full),
     }
 }
 
-/// Asks a query at the newest revision.
+/// Asks a query at the newest revision, and publishes what was found.
 fn run_ask<K, P, R, G>(
     rt: &R,
     alloc: Global,
@@ -155,7 +178,7 @@ fn run_ask<K, P, R, G>(
     budget: Option<u32>,
     terms: Terms,
     gate: &G,
-) -> Result<Record, Stop>
+) -> Result<Step, Stop>
 where
     K: Start<Query = Query>,
     P: Plan,
@@ -164,22 +187,23 @@ where
     requires pass { IsReady P.board.table pass.old }
     ensures later { IsLater pass.old pass.new }
     ensures ready { IsReady P.board.table pass.new }
-    ensures told { IfOk result (IsTold (answers_by K.Key.cmp K.given K.make K.answer_over) terms P.opening P.table pass.old.number number (Ask query.now mode budget) pass.old pass.new) }
+    ensures told { IfOk result (λ step. IsTold (answers_by K.Key.cmp K.given K.make K.answer_over) terms P.opening P.table pass.old.number number (Ask query.now mode budget) pass.old pass.new step.told) }
     ensures unchanged { OnErr result (pass.new.mine ≡ pass.old.mine) }
     ensures memory { ¬ IsErrOf result Stop.Full }
 {
     let client = pass.client();
-    let snapshot = session.begin(rt, alloc, pass)?;
-    let revision = snapshot.revision();
-    let mut kinds = K::start(snapshot.files());
+    let lent = session.begin(rt, alloc, pass)?;
+    let revision = lent.snapshot().revision();
+    let mut kinds = K::start(lent.snapshot().files());
     let mut fresh = Fresh::new();
+    an_ask_may_begin::<K>();
     gate.at(Point::Before {
         client,
         command: number,
     });
     let outcome = session.work(
         alloc,
-        &snapshot,
+        &lent,
         pass,
         &mut kinds,
         query,
@@ -191,8 +215,11 @@ where
         client,
         command: number,
     });
-    session.finish(rt, pass, snapshot, fresh)?;
-    Ok(outcome_record(revision, outcome))
+    session.finish(rt, alloc, pass, lent, fresh)?;
+    Ok(Step {
+        told: outcome_record(revision, outcome),
+        computes: kinds.computes(),
+    })
 }
 
 /// The record of an ask at this revision.

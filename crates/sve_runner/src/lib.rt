@@ -8,6 +8,7 @@ mod running;
 mod script_client;
 mod stop;
 mod terms;
+mod told;
 
 pub use gate::{Gate, NoGate, Point};
 pub use running::{Ran, run_script, told_entries};

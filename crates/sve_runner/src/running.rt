@@ -2,12 +2,13 @@
 ghost use Rattle.std.specs.Prelude.{◌≡◌, ◌<◌, ◌≤◌, ◌^◌, ℕ, Some, Err, length, slice_get, sum_by, IfOk};
 ghost use Rattle.sve_history.specs.Histories.{IsOpening};
 ghost use Rattle.sve_runner.specs.Honest.{told_entries, AreHonest};
-ghost use Rattle.sve_runner.specs.Told.{answers_by, AreFew, all_told};
+ghost use Rattle.sve_runner.specs.Told.{answers_by, AreFew, all_told, records_told, counts_told};
 
 use crate::gate::Gate;
 use crate::script_client::ScriptClient;
 use crate::stop::Stop;
 use crate::terms::Terms;
+use crate::told::Told;
 use std::alloc::{AllocError, Global};
 use std::sync::Wait;
 use std::thread::Threads;
@@ -19,11 +20,12 @@ use sve_report::{Entry, Record};
 use sve_store::Start;
 use sve_text::Files;
 
-/// A history, and the records of each client, client 1 first.
+/// A history, the records of each client, client 1 first, and beside each record how many values its command computed.
 #[derive(Drop)]
 pub struct Ran {
     pub history: History,
     pub records: List<List<Record>>,
+    pub counts: List<List<u64>>,
 }
 
 /// Runs the 1 to 16 clients of a script over a session with these opening files, which no commit has touched. They have
@@ -66,9 +68,12 @@ where
         terms.order,
     )?;
     let Ended { history, left } = ended;
+    let all = all_told(alloc, left)?;
+    let (records, counts) = parted(alloc, all)?;
     Ok(Ran {
         history,
-        records: records_in(alloc, left)?,
+        records: List::of(records),
+        counts: List::of(counts),
     })
 }
 
@@ -102,21 +107,35 @@ fn command_count(clients: &[List<Command>]) -> u64
     count
 }
 
-/// The records of all clients, on condition that none of them found the history full.
-fn records_in(
-    alloc: Global,
-    left: List<Result<List<Record>, Stop>>,
-) -> Result<List<List<Record>>, NoMemory>
+/// What all clients were told, on condition that none of them found the history full.
+fn all_told(alloc: Global, left: List<Result<Told, Stop>>) -> Result<Vec<Told>, NoMemory>
     requires room { (i : ℕ) → ¬ (slice_get left i ≡ Some (Err Stop.Full)) }
-    ensures { IfOk result (λ records. left ≡ all_told records) }
+    ensures { IfOk result (λ all. left ≡ all_told all.items) }
 {
-    let mut records = Vec::new(alloc);
+    let mut all = Vec::new(alloc);
     for one in left.into_vec() {
         match one {
-            Ok(told) => records.push(told)?,
+            Ok(told) => all.push(told)?,
             Err(Stop::NoMemory) => return Err(AllocError),
             Err(Stop::Full) => unreachable!(),
         }
     }
-    Ok(List::of(records))
+    Ok(all)
+}
+
+/// The records of all clients, and the counts.
+fn parted(alloc: Global, all: Vec<Told>) -> Result<(Vec<List<Record>>, Vec<List<u64>>), NoMemory>
+    ensures { IfOk result (λ both. (both.0.items ≡ records_told all.items) × (both.1.items ≡ counts_told all.items)) }
+{
+    let mut records = Vec::with_capacity(alloc, all.len())?;
+    let mut counts = Vec::with_capacity(alloc, all.len())?;
+    for one in all {
+        let Told {
+            records: told,
+            counts: computed,
+        } = one;
+        records.push(told)?;
+        counts.push(computed)?;
+    }
+    Ok((records, counts))
 }

@@ -7,13 +7,13 @@ use crate::commands::run_commands;
 use crate::gate::Gate;
 use crate::stop::Stop;
 use crate::terms::Terms;
+use crate::told::Told;
 use std::alloc::Global;
 use std::sync::Wait;
 use sve_board::Pass;
 use sve_bytes::List;
 use sve_clients::{Client, Ran};
 use sve_command::{Command, Query};
-use sve_report::Record;
 use sve_session::{Plan, Session};
 use sve_store::Start;
 
@@ -30,7 +30,7 @@ impl<'a, K: Start<Query = Query>, G: Gate> Client<K> for ScriptClient<'a, G> {
     ghost use Rattle.sve_runner.specs.Honest.{edits_in, commands_at};
     ghost use Rattle.sve_runner.specs.Told.{answers_by, HasLeft};
 
-    type Left = Result<List<Record>, Stop>;
+    type Left = Result<Told, Stop>;
 
     ghost edits = { λ script. edits_in script.clients.now };
 
@@ -42,7 +42,7 @@ impl<'a, K: Start<Query = Query>, G: Gate> Client<K> for ScriptClient<'a, G> {
         alloc: Global,
         session: &Session<K, P>,
         pass: Pass,
-    ) -> Ran<Result<List<Record>, Stop>> {
+    ) -> Ran<Result<Told, Stop>> {
         let mut pass = pass;
         let commands = commands_at(self.clients, pass.client());
         let left = run_commands(

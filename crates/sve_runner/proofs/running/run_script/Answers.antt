@@ -1,9 +1,11 @@
 use denote.Param.Send.{sendable}
+use Rattle.std.proofs.Common.{sym, ◌∙◌, subst}
 use Rattle.std.proofs.Crossing.{crosses}
 use Rattle.sve_bytes.proofs.list.List.TheSendSync as list
 use Rattle.sve_bytes.proofs.name.Name.TheSendSync as name
 use Rattle.sve_rope.proofs.run.Run.TheSendSync as run
 use Rattle.sve_rope.proofs.tree.Tree.TheLaws.TheKnot as rope
+use Rattle.sve_runner.specs.Honest.{told_entries, AreHonest}
 use Rattle.sve_runner.specs.Told.{answers_by}
 use Rattle.sve_runner.proofs.Ends.{never_full, all_honest}
 use Rattle.sve_runner.proofs.running.run_script.Goals as goal
@@ -15,8 +17,8 @@ run_clients-requires-sync-C g c κs within =
     let sync-G = bounds.sync-G in
     search (sendable, crosses, list.the_sync, name.the_sync, run.the_send, run.the_sync, rope.crosses, rope.crosses_both) depth 40 fits 200000
 
-pub records_in-requires : goal.records_in-requires
-records_in-requires g c =
+pub all_told-requires : goal.all_told-requires
+all_told-requires g c =
     let answers = answers_by g.K.Key.Ord.cmp g.K.Keyed.given g.K.Kinds.make g.K.Kinds.answer_over in
     let ended = c.in_ok-ended.ended in
     let all = c.in_ok-ended.ensures in
@@ -29,4 +31,5 @@ returns g c =
     let answers = answers_by g.K.Key.Ord.cmp g.K.Keyed.given g.K.Kinds.make g.K.Kinds.answer_over in
     let ended = c.in_ok-ended.ended in
     let all = c.in_ok-ended.ensures in
-    all_honest answers c.args.terms c.args.files c.args.clients.now ended.history all.history c.command_count.result ended.left all.count all.left c.in_ok-records_in.field-0 c.in_ok-records_in.ensures
+    let honest = all_honest answers c.args.terms c.args.files c.args.clients.now ended.history all.history c.command_count.result ended.left all.count all.left c.in_ok-all.all.items c.in_ok-all.ensures in
+    subst (AreHonest answers c.args.terms c.args.files c.args.clients.now (told_entries ended.history)) (sym (c.of.ensures ∙ c.in_ok-records.ensures.0)) honest
