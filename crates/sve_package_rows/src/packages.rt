@@ -1,14 +1,13 @@
 //! The rows of packages.
 use crate::said::{add_name, add_notes, add_scope, add_what};
 use std::alloc::Global;
-use std::slice;
 use sve_bytes::{Name, NoMemory};
 use sve_facts::Facts;
 use sve_given::words_of;
 use sve_known::{Known, named};
 use sve_row::{fields_of, name_of, spell};
 use sve_row_packages::{Chunk, File, SEE, file_of};
-use sve_scope::Scope;
+use sve_scope::{Enclosing, Scope};
 use sve_show::tokens_of;
 use sve_table::Table;
 use sve_tree::{PackageScope, ScopedName, Word};
@@ -143,7 +142,8 @@ fn add_named(
     words: &[Word],
 ) -> Result<(), NoMemory> {
     let name = scoped_name(words.len());
-    match named(known, words, slice::from_ref(scope), name) {
+    let around = Enclosing::new(alloc);
+    match named(known, words, scope, &around, name) {
         Ok(what) => add_what(alloc, out, what),
         Err(wrong) => {
             spell(out, wrong.code.spelling())?;
