@@ -4,10 +4,12 @@ ghost use Rattle.std.specs.Prelude.{◌≤◌, IfSome};
 use std::alloc::Global;
 use sve_bytes::{List, Name, NoMemory};
 use sve_row::{name_of, number_of, offset_of, parts_of, word};
-use sve_sample::{Texts, text_of};
-use sve_store::Fresh;
+use sve_sample::text_of;
 use sve_text::{Edit, Mode};
-use sve_world::{Event, EventOf};
+use sve_world::EventOf;
+
+/// An event as rows spell it: one that gives a snapshot back brings nothing.
+pub type Spelled = EventOf<Name, ()>;
 
 /// How many clients a word says, 1 to 16.
 pub fn clients_of(word: &str) -> Option<u32>
@@ -22,7 +24,7 @@ pub fn clients_of(word: &str) -> Option<u32>
 }
 
 /// The event that these words spell, and whose it is.
-pub fn event_of(alloc: Global, words: &str) -> Result<Option<(u32, Event<Texts>)>, NoMemory> {
+pub fn event_of(alloc: Global, words: &str) -> Result<Option<(u32, Spelled)>, NoMemory> {
     let (client, words) = word(words);
     let Some(client) = offset_of(client) else {
         return Ok(None);
@@ -31,10 +33,7 @@ pub fn event_of(alloc: Global, words: &str) -> Result<Option<(u32, Event<Texts>)
     let event = match kind {
         "begin" => Some(EventOf::Begin { client }),
         "look" => Some(EventOf::Look { client }),
-        "publish" => Some(EventOf::Publish {
-            client,
-            fresh: Fresh::new(),
-        }),
+        "publish" => Some(EventOf::Publish { client, fresh: () }),
         "ask" => asked(alloc, client, words)?,
         "commit" => commit_of(alloc, client, words)?,
         "refuse" => refusal_of(alloc, client, words)?,
@@ -61,7 +60,7 @@ fn mode_of(words: &str) -> Option<(Mode, Option<u64>)> {
 }
 
 /// `COMMAND NAME BUDGET MODE`.
-fn asked(alloc: Global, client: u32, words: &str) -> Result<Option<Event<Texts>>, NoMemory> {
+fn asked(alloc: Global, client: u32, words: &str) -> Result<Option<Spelled>, NoMemory> {
     let (command, words) = word(words);
     let (name, words) = word(words);
     let (budget, words) = word(words);
@@ -86,7 +85,7 @@ fn asked(alloc: Global, client: u32, words: &str) -> Result<Option<Event<Texts>>
 }
 
 /// `COMMAND EDITS`, which is to be accepted.
-fn commit_of(alloc: Global, client: u32, words: &str) -> Result<Option<Event<Texts>>, NoMemory> {
+fn commit_of(alloc: Global, client: u32, words: &str) -> Result<Option<Spelled>, NoMemory> {
     let (command, words) = word(words);
     let (Some(command), Some(edits)) = (offset_of(command), edits_of(alloc, words)?) else {
         return Ok(None);
@@ -99,7 +98,7 @@ fn commit_of(alloc: Global, client: u32, words: &str) -> Result<Option<Event<Tex
 }
 
 /// `COMMAND EDITS`, which is to be refused.
-fn refusal_of(alloc: Global, client: u32, words: &str) -> Result<Option<Event<Texts>>, NoMemory> {
+fn refusal_of(alloc: Global, client: u32, words: &str) -> Result<Option<Spelled>, NoMemory> {
     let (command, words) = word(words);
     let (Some(command), Some(edits)) = (offset_of(command), edits_of(alloc, words)?) else {
         return Ok(None);

@@ -1,12 +1,15 @@
 //! Rows of schedules.
-use crate::reading::{clients_of, event_of};
+ghost use Rattle.sve_world.specs.Machine.{BringsNothing};
+
+use crate::reading::{Spelled, clients_of, event_of};
 use crate::showing::{show_entries, show_files, show_what_came};
 use std::alloc::Global;
 use sve_allowed::allows;
+use sve_ask::Fresh;
 use sve_bytes::NoMemory;
 use sve_row::{Table, field, number_of, parts_of, word};
 use sve_sample::{Texts, files_of};
-use sve_world::{World, step};
+use sve_world::{Event, EventOf, World, step};
 
 /// The rows of this table.
 ///
@@ -57,6 +60,7 @@ fn happens(
     let Some((client, event)) = event_of(alloc, words)? else {
         return Ok(false);
     };
+    let event = bringing_nothing(event);
     if !allows(world, &event) {
         out.push_str("not now; ")?;
         return Ok(true);
@@ -67,6 +71,53 @@ fn happens(
         out.push_str("; ")?;
     }
     Ok(true)
+}
+
+/// The event, with no memo where a snapshot is given back.
+fn bringing_nothing(event: Spelled) -> Event<Texts>
+    ensures { BringsNothing (λ fresh. fresh.memos) result }
+{
+    match event {
+        EventOf::Commit {
+            client,
+            command,
+            edits,
+        } => EventOf::Commit {
+            client,
+            command,
+            edits,
+        },
+        EventOf::Refuse {
+            client,
+            command,
+            edits,
+        } => EventOf::Refuse {
+            client,
+            command,
+            edits,
+        },
+        EventOf::Begin { client } => EventOf::Begin { client },
+        EventOf::Look { client } => EventOf::Look { client },
+        EventOf::Answer {
+            client,
+            command,
+            query,
+            budget,
+            mode,
+            newer,
+        } => EventOf::Answer {
+            client,
+            command,
+            query,
+            budget,
+            mode,
+            newer,
+        },
+        EventOf::Publish { client, fresh: () } => EventOf::Publish {
+            client,
+            fresh: Fresh::new(),
+        },
+    }
 }
 
 fn run(alloc: Global, row: &str) -> Result<Option<String>, NoMemory> {
