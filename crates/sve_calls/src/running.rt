@@ -5,7 +5,7 @@ ghost use Rattle.sve_history.specs.Histories.{IsOpening};
 ghost use Rattle.sve_session.specs.Passes.{IsReady, IsNext};
 ghost use Rattle.sve_calls.specs.SameEdits.{same_edits};
 
-use crate::asking::ask_between;
+use crate::asking::{ask_between, ask_in_turn};
 use crate::committing::commits;
 use std::alloc::Global;
 use std::fmt::Write;
@@ -18,6 +18,17 @@ use sve_sample::Texts;
 use sve_session::{Plan, Session};
 use sve_text::{Edit, Files, Mode};
 
+/// Which calls are made.
+#[derive(Clone, Copy)]
+pub enum Turns {
+    /// Commits of client 2.
+    Commits,
+    /// An ask of client 1 in this mode, with commits of client 2 between its calls.
+    Between(Mode),
+    /// Asks of both clients, with one commit of client 2 between.
+    Asks,
+}
+
 /// The calls of a row.
 #[derive(Clone, Copy)]
 pub struct Row {
@@ -25,8 +36,8 @@ pub struct Row {
     pub most: u32,
     /// How often client 2 commits.
     pub count: u32,
-    /// The mode of client 1's ask, where it asks.
-    pub mode: Option<Mode>,
+    /// Which calls are made.
+    pub turns: Turns,
 }
 
 /// Makes the calls of a row over these opening files, which no commit has touched, and tells what came of them. What is asked is
@@ -154,11 +165,12 @@ fn call<P: Plan, R: Wait>(
     ensures first { IsReady P.board.table first.new }
     ensures second { IsReady P.board.table second.new }
 {
-    match row.mode {
-        Some(mode) => ask_between(
+    match row.turns {
+        Turns::Commits => commits(rt, alloc, session, second, edits, row.count, out),
+        Turns::Between(mode) => ask_between(
             rt, alloc, session, first, second, name, mode, edits, row.count, out,
         ),
-        None => commits(rt, alloc, session, second, edits, row.count, out),
+        Turns::Asks => ask_in_turn(rt, alloc, session, first, second, name, edits, out),
     }
 }
 
