@@ -1,0 +1,4 @@
+pub mod Declarators
+pub mod Declarations
+pub mod Formals
+pub mod Loops
