@@ -1,3 +1,4 @@
 pub mod Functions
+pub mod Headed
 pub mod Readings
 pub mod Follows

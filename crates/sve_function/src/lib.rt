@@ -1,5 +1,5 @@
-//! What functions declare in the scope of a package or of a compilation unit, as far as they are seen from outside, and with them all
-//! declarations there (IEEE 1800-2017, 13.4 and clause 26).
+//! What functions declare in the scope of a package or of a compilation unit and in scopes of their own, what there is to say of their
+//! bodies, and with them all declarations there (IEEE 1800-2017, 13.4 and clause 26).
 #![tactic(auto)]
 
 mod functions;
