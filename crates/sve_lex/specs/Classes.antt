@@ -1,12 +1,11 @@
 -- The classes of tokens and of separators, each by what may come after its first byte (IEEE 1800-2017, clause 5).
 use Rattle.std.specs.Prelude.{ℕ, ◌+◌, Bool, true, false, ◌&&◌, not, ◌==◌, nat_le, if◌then◌else◌, List, [], ◌∷◌, ◌++◌, length, Option, Some, None, unwrap_or}
 use Rattle.std.specs.List.{list_all}
-use Rattle.std.specs.Option.{option_map}
 use Rattle.sve_bytes.specs.Bytes.{is_white_space, begins_identifier, continues_identifier}
 use Rattle.sve_token.specs.Keywords.{keyword_of}
 use Rattle.sve_token.specs.Operators.{Entry, lookup, operator_of}
 use Rattle.sve_token.specs.declared.kind.Kind.{Kind}
-use Rattle.sve_token.specs.declared.kind.Kind.TheVariants.{Identifier, SystemName, Decimal, Based, Unbased, Text, Bad, Keyword}
+use Rattle.sve_token.specs.declared.kind.Kind.TheVariants.{Identifier, SystemName, Decimal, Based, Unbased, Text, Bad}
 use Rattle.sve_lex.specs.declared.class.Class.{Class}
 use Rattle.sve_lex.specs.declared.class.Class.TheVariants.{Separator, Lexeme}
 use Rattle.sve_lex.specs.Longest.{Form, longest}
@@ -36,7 +35,7 @@ named kind n = if nat_le n 1024 then Lexeme kind else Lexeme Bad
 
 -- a word is a keyword, or else an identifier (5.6, 5.6.2)
 abbrev pub word_kind : List ℕ → Kind
-word_kind text = unwrap_or (option_map Keyword (keyword_of text)) Identifier
+word_kind text = unwrap_or (keyword_of text) Identifier
 
 abbrev pub word_class : ℕ → List ℕ → Class
 word_class b s = named (word_kind (b ∷ s)) (1 + length s)

@@ -3,11 +3,12 @@ use Rattle.std.proofs.Common.{◌≡◌, ℕ, nat_eq, if◌then◌else◌, refl,
 use Rattle.sve_token.specs.declared.kind.Kind.{Kind}
 use Rattle.sve_token.specs.declared.kind.Kind.TheVariants as is_kind
 use Rattle.sve_token.specs.declared.keywords.Keyword.{Keyword as Word}
-use Rattle.sve_same.specs.Kinds.{place_of, word_of}
+use Rattle.sve_token.specs.declared.reserved.Reserved.{Reserved as Unread}
+use Rattle.sve_same.specs.Kinds.{place_of, word_of, reserved_of}
 
--- the kind of this number and keyword
-back : ℕ → Word → Kind
-back place word =
+-- the kind of this number and these keywords
+back : ℕ → Word → Unread → Kind
+back place word unread =
     if nat_eq place 1 then is_kind.Identifier
     else if nat_eq place 2 then is_kind.SystemName
     else if nat_eq place 3 then is_kind.Decimal
@@ -82,9 +83,10 @@ back place word =
     else if nat_eq place 72 then is_kind.LogicalShiftRightAssign
     else if nat_eq place 73 then is_kind.ArithmeticShiftLeftAssign
     else if nat_eq place 74 then is_kind.ArithmeticShiftRightAssign
+    else if nat_eq place 75 then is_kind.Reserved unread
     else is_kind.Keyword word
 
-back_is : (k : Kind) → back (place_of k) (word_of k) ≡ k
+back_is : (k : Kind) → back (place_of k) (word_of k) (reserved_of k) ≡ k
 unfolding back
 back_is (is_kind.Keyword word) = refl
 back_is is_kind.Identifier = refl
@@ -161,6 +163,7 @@ back_is is_kind.LogicalShiftLeftAssign = refl
 back_is is_kind.LogicalShiftRightAssign = refl
 back_is is_kind.ArithmeticShiftLeftAssign = refl
 back_is is_kind.ArithmeticShiftRightAssign = refl
+back_is (is_kind.Reserved word) = refl
 
-pub one_kind : (a b : Kind) → place_of a ≡ place_of b → word_of a ≡ word_of b → a ≡ b
-one_kind a b p w = sym (back_is a) ∙ (λ i. back (p i) (w i)) ∙ back_is b
+pub one_kind : (a b : Kind) → place_of a ≡ place_of b → word_of a ≡ word_of b → reserved_of a ≡ reserved_of b → a ≡ b
+one_kind a b p w r = sym (back_is a) ∙ (λ i. back (p i) (w i) (r i)) ∙ back_is b

@@ -4,6 +4,8 @@ use Rattle.sve_token.specs.declared.kind.Kind.{Kind}
 use Rattle.sve_token.specs.declared.kind.Kind.TheVariants as is_kind
 use Rattle.sve_token.specs.declared.keywords.Keyword.{Keyword as Word}
 use Rattle.sve_token.specs.declared.keywords.Keyword.TheVariants.{KwModule}
+use Rattle.sve_token.specs.declared.reserved.Reserved.{Reserved as Unread}
+use Rattle.sve_token.specs.declared.reserved.Reserved.TheVariants.{KwClass}
 
 -- the number of a kind; all keywords have one
 abbrev pub place_of : Kind → ℕ
@@ -82,8 +84,14 @@ place_of is_kind.LogicalShiftLeftAssign = 71
 place_of is_kind.LogicalShiftRightAssign = 72
 place_of is_kind.ArithmeticShiftLeftAssign = 73
 place_of is_kind.ArithmeticShiftRightAssign = 74
+place_of (is_kind.Reserved word) = 75
 
 -- the keyword of a kind; where it is none, any
 abbrev pub word_of : Kind → Word
 word_of (is_kind.Keyword word) = word
 word_of kind = KwModule
+
+-- the keyword of a kind that no rule names; where it is none, any
+abbrev pub reserved_of : Kind → Unread
+reserved_of (is_kind.Reserved word) = word
+reserved_of kind = KwClass

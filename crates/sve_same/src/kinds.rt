@@ -1,9 +1,9 @@
 ghost use Rattle.std.specs.Prelude.{◌≡◌};
-ghost use Rattle.sve_same.specs.Kinds.{place_of, word_of};
+ghost use Rattle.sve_same.specs.Kinds.{place_of, word_of, reserved_of};
 
-use sve_token::{Keyword, Kind};
+use sve_token::{Keyword, Kind, Reserved};
 
-/// The number of a kind; all keywords have one.
+/// The number of a kind; all keywords of the grammar have one, and all others.
 pub(crate) fn place_of(kind: Kind) -> u32
     ensures { result ≡ place_of kind }
 {
@@ -83,15 +83,26 @@ pub(crate) fn place_of(kind: Kind) -> u32
         Kind::LogicalShiftRightAssign => 72,
         Kind::ArithmeticShiftLeftAssign => 73,
         Kind::ArithmeticShiftRightAssign => 74,
+        Kind::Reserved(_) => 75,
     }
 }
 
-/// The keyword of a kind; where it is none, any.
+/// The keyword of the grammar that a kind is of; where it is none, any.
 pub(crate) fn word_of(kind: Kind) -> Keyword
     ensures { result ≡ word_of kind }
 {
     match kind {
         Kind::Keyword(word) => word,
         _ => Keyword::KwModule,
+    }
+}
+
+/// The keyword of a kind that no rule names; where it is none, any.
+pub(crate) fn reserved_of(kind: Kind) -> Reserved
+    ensures { result ≡ reserved_of kind }
+{
+    match kind {
+        Kind::Reserved(word) => word,
+        _ => Reserved::KwClass,
     }
 }

@@ -1,11 +1,12 @@
 ghost use Rattle.std.specs.Prelude.{◌≡◌, ◌↔◌, IsTrue};
+ghost use Rattle.sve_same.specs.Kinds.{word_of, reserved_of};
 
-use crate::kinds::{place_of, word_of};
+use crate::kinds::{place_of, reserved_of, word_of};
 use crate::same::Same;
 use sve_bytes::{List, Name, NetType};
 use sve_diag::{Code, Diag, Note, Place};
 use sve_index::Def;
-use sve_token::{Keyword, Kind, Token};
+use sve_token::{Keyword, Kind, Reserved, Token};
 use sve_tree::Word;
 use sve_unit::Chunk;
 
@@ -45,10 +46,23 @@ impl Same for Keyword {
     }
 }
 
+impl Same for Reserved {
+    fn same(&self, other: &Reserved) -> bool {
+        self == other
+    }
+}
+
+/// Whether two kinds have the same keywords.
+fn same_words(kind: Kind, other: Kind) -> bool
+    ensures { IsTrue result ↔ ((word_of kind ≡ word_of other) × (reserved_of kind ≡ reserved_of other)) }
+{
+    word_of(kind).same(&word_of(other)) && reserved_of(kind).same(&reserved_of(other))
+}
+
 impl Same for Kind {
     #[tactic(auto, using(crate::proofs::Exact::one_kind))]
     fn same(&self, other: &Kind) -> bool {
-        place_of(*self) == place_of(*other) && word_of(*self).same(&word_of(*other))
+        place_of(*self) == place_of(*other) && same_words(*self, *other)
     }
 }
 

@@ -1,3 +1,3 @@
-pub mod KeywordText
+pub mod WordText
 pub mod Keywords
 pub mod Operators

@@ -1,4 +1,4 @@
-use crate::Keyword;
+use crate::{Keyword, Reserved};
 
 /// The kind of a token (IEEE 1800-2017, clause 5): a class of spellings, one keyword, or one operator. Two tokens are of
 /// one kind exactly where their kinds are equal.
@@ -18,8 +18,10 @@ pub enum Kind {
     Text,
     /// Bytes that are no token: what does not end, a name that is too long, or a byte that begins nothing (own).
     Bad,
-    /// A keyword (Annex B).
+    /// A keyword that the grammar has a rule with (Annex B).
     Keyword(Keyword),
+    /// A keyword that no rule of the grammar names (Annex B).
+    Reserved(Reserved),
     /// `(`.
     LeftParen,
     /// `)`.

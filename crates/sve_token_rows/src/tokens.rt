@@ -172,7 +172,7 @@ fn is_identifier(alloc: Global, text: &[u8]) -> Result<bool, NoMemory> {
 fn is_keyword(alloc: Global, word: &[u8]) -> Result<bool, NoMemory> {
     let tokens = tokens_in(alloc, word)?;
     Ok(match tokens.items() {
-        [token] => matches!(token.kind, Kind::Keyword(_)),
+        [token] => matches!(token.kind, Kind::Keyword(_) | Kind::Reserved(_)),
         _ => false,
     })
 }
