@@ -11,8 +11,8 @@ use Rattle.sve_history.specs.declared.entry.Entry.{Entry}
 use Rattle.sve_history.specs.Histories.{HistoryValue}
 use Rattle.sve_store.specs.Made.{values_of}
 use Rattle.sve_memo.specs.Memos.{FindingValue, MemoValue, memo_in}
-use Rattle.sve_ask.specs.Sound.{Defined, IsSound, AllSound}
-use Rattle.sve_ask.specs.Current.{first_of, found_in, overlaid, by_input, Currently}
+use Rattle.sve_ask.specs.Sound.{Defined, AllSound}
+use Rattle.sve_ask.specs.Current.{first_of, overlaid, by_input}
 use Rattle.sve_ask.specs.Gains.{AllVerified, IsCurrentFor}
 use Rattle.sve_ask.proofs.Puts.{found_held}
 use Rattle.sve_ask.proofs.Stays.{current_along}

@@ -5,10 +5,9 @@ ghost use Rattle.sve_store.specs.Made.{values_of};
 ghost use Rattle.sve_store.specs.Values.{IsTable, IsAnswer, IsDone};
 ghost use Rattle.sve_ask.specs.Sound.{Defined};
 ghost use Rattle.sve_reader.specs.UpToDate.{IsUpToDate};
-ghost use Rattle.sve_core.specs.Asks.{snapshot_of};
 
 use std::alloc::Global;
-use sve_ask::{Fresh, Lent, Watch};
+use sve_ask::{Fresh, Watch};
 use sve_core::Core;
 use sve_io::Halt;
 use sve_reader::read_answer;
@@ -24,34 +23,6 @@ pub struct Twice {
     pub second: Answer,
     /// How many values were computed for the second answer.
     pub computes: u64,
-}
-
-/// The answer of a query at a revision that was lent, and the watch back. What was found is published.
-fn published<K: Ending, W: Watch>(
-    alloc: Global,
-    core: &mut Core<K>,
-    lent: &Lent<K>,
-    kinds: &mut K,
-    query: &K::Query,
-    budget: u32,
-    watch: W,
-) -> (Result<Answer, Halt>, W)
-    requires snapshot { lent.now.snapshot ≡ snapshot_of core.old.history }
-    requires memos { lent.now.memos ≡ core.old.memos }
-    requires fits { IsTrue (K.fits kinds.old (newest_files core.old.history)) }
-    ensures fits { IsTrue (K.fits kinds.new (newest_files core.old.history)) }
-    ensures history { core.new.history ≡ core.old.history }
-    ensures answer { IfOk result.0 (λ answer. IsAnswer K.Key.cmp (values_of (K.given (newest_files core.old.history))) K.make K.answer_over query.now budget answer) }
-    ensures quiet { (table : K.Key → ℕ → K.Value) → IsTable K.Key.cmp (values_of (K.given (newest_files core.old.history))) K.make table → ((k : K.Key) (f : ℕ) → K.is_input k ≡ false → K.asks_over table query.now budget k f → IsUpToDate (record { cmp = K.Key.cmp; given = K.given; make = K.make; ranked = K.ranked; serves = K.serves }) (newest_files core.old.history) [] core.old.memos k f) → K.counted kinds.new ≡ K.counted kinds.old }
-    ensures done { (table : K.Key → ℕ → K.Value) → IsTable K.Key.cmp (values_of (K.given (newest_files core.old.history))) K.make table → IfOk result.0 (λ answer. IsDone answer → (k : K.Key) (f : ℕ) → K.is_input k ≡ false → K.asks_over table query.now budget k f → IsUpToDate (record { cmp = K.Key.cmp; given = K.given; make = K.make; ranked = K.ranked; serves = K.serves }) (newest_files core.old.history) [] core.new.memos k f) }
-{
-    core.stays_sound();
-    let mut fresh = Fresh::new();
-    let (answer, watch) = read_answer(alloc, kinds, lent, query, budget, &mut fresh, watch);
-    match core.publish(alloc, lent.snapshot().revision(), fresh) {
-        Ok(()) => (answer, watch),
-        Err(_) => (Err(Halt::NoMemory), watch),
-    }
 }
 
 /// The answer of a query at the newest revision, and the watch back. What was found is published, for every ask to come.
@@ -76,8 +47,15 @@ pub fn answered<K: Ending, W: Watch>(
     ensures quiet { (table : K.Key → ℕ → K.Value) → IsTable K.Key.cmp (values_of (K.given (newest_files core.old.history))) K.make table → ((k : K.Key) (f : ℕ) → K.is_input k ≡ false → K.asks_over table query.now budget k f → IsUpToDate (record { cmp = K.Key.cmp; given = K.given; make = K.make; ranked = K.ranked; serves = K.serves }) (newest_files core.old.history) [] core.old.memos k f) → K.counted kinds.new ≡ K.counted kinds.old }
     ensures done { (table : K.Key → ℕ → K.Value) → IsTable K.Key.cmp (values_of (K.given (newest_files core.old.history))) K.make table → IfOk result.0 (λ answer. IsDone answer → (k : K.Key) (f : ℕ) → K.is_input k ≡ false → K.asks_over table query.now budget k f → IsUpToDate (record { cmp = K.Key.cmp; given = K.given; make = K.make; ranked = K.ranked; serves = K.serves }) (newest_files core.old.history) [] core.new.memos k f) }
 {
-    match core.begin(alloc) {
-        Ok(lent) => published(alloc, core, &lent, kinds, query, budget, watch),
+    core.stays_sound();
+    let lent = match core.begin(alloc) {
+        Ok(lent) => lent,
+        Err(_) => return (Err(Halt::NoMemory), watch),
+    };
+    let mut fresh = Fresh::new();
+    let (answer, watch) = read_answer(alloc, kinds, &lent, query, budget, &mut fresh, watch);
+    match core.publish(alloc, lent.snapshot().revision(), fresh) {
+        Ok(()) => (answer, watch),
         Err(_) => (Err(Halt::NoMemory), watch),
     }
 }

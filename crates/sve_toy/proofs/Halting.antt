@@ -1,6 +1,5 @@
 -- The key at which a call halts that fetches one key.
-use Rattle.std.proofs.Common.{◌≡◌, ℕ, ◌⊎◌, inl, inr, Option, Some, None, Result, refl, ap, sym, ◌∙◌}
-use Rattle.std.specs.Prelude.{IsErr}
+use Rattle.std.proofs.Common.{◌≡◌, ℕ, inl, inr, Option, Some, None, Result, refl, ap, sym, ◌∙◌}
 use Rattle.sve_told.specs.Keys.{MatchesKeys, HaltedAt}
 use Rattle.sve_told.specs.Made.{Made, Needs, with_key}
 

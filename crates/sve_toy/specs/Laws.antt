@@ -1,5 +1,5 @@
 -- What kinds owe, of these keys.
-use Rattle.std.proofs.Common.{◌≡◌, ◌↔◌, ◌⊎◌, ℕ, ◌<◌, ◌≤◌, ◌/◌, Bool, true, false, List, length, Option, Some, None, is_some, option_map, inl, inr, refl, sym, ap, ◌∙◌, subst, arith}
+use Rattle.std.proofs.Common.{◌≡◌, ◌↔◌, ℕ, ◌<◌, ◌≤◌, ◌/◌, false, length, Option, Some, None, is_some, inl, refl, ap, ◌∙◌, subst, arith}
 use Rattle.std.specs.Option.{option_and_then}
 use Rattle.std.specs.declared.cmp.Ordering.{Ordering}
 use Rattle.std.specs.declared.cmp.Ordering.TheVariants.{Less, Equal, Greater}
@@ -7,9 +7,9 @@ use Rattle.sve_text.specs.Rows.{Row, text_of, stamp_of}
 use Rattle.sve_text.specs.Files.{FilesValue}
 use Rattle.sve_history.specs.Histories.{HistoryValue, IsOpening, files_at}
 use Rattle.sve_history.proofs.Stamps.{stamps_tell_revisions}
-use Rattle.sve_told.specs.Made.{Made, Needs, Done, with_key}
+use Rattle.sve_told.specs.Made.{Needs, Done, with_key}
 use Rattle.sve_store.specs.Made.{values_of, IsOneOf}
-use Rattle.sve_store.specs.Values.{Gives, IsValue, TellsValues, TellsLowerValues}
+use Rattle.sve_store.specs.Values.{IsValue, TellsValues, TellsLowerValues}
 use Rattle.sve_ask.proofs.Alike.{at_any_fuel}
 use Rattle.sve_toy.specs.declared.kinds.Key.{Key}
 use Rattle.sve_toy.specs.declared.kinds.Key.TheVariants.{Length, Pairs, Quads}

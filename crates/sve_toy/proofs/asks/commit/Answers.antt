@@ -1,9 +1,8 @@
-use Rattle.std.proofs.Common.{◌+◌, ◌<◌, ◌∷◌, [], sym, subst}
+use Rattle.std.proofs.Common.{◌+◌, ◌<◌, sym, subst}
 use Rattle.std.specs.Prelude.{All}
 use Rattle.sve_text.specs.Refusals.{refusal_of}
 use Rattle.sve_history.specs.Histories.{commands_of, newest_files}
 use Rattle.sve_core.specs.Commits.{CoreValue}
-use Rattle.sve_toy.specs.declared.kinds.Key.{Key}
 use Rattle.sve_toy.proofs.Commands.{commands_after}
 use Rattle.sve_toy.proofs.asks.commit.Goals as goal
 
