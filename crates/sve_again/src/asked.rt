@@ -1,9 +1,12 @@
 //! Queries that are answered at the newest revision of a core, one after another.
-ghost use Rattle.std.specs.Prelude.{◌≡◌, ℕ, [], false, IfOk, IsTrue};
+ghost use Rattle.std.specs.Prelude.{◌≡◌, ℕ, [], false, length, IfOk, IfErr, OnOk, IsTrue};
 ghost use Rattle.sve_history.specs.Histories.{newest_files};
 ghost use Rattle.sve_store.specs.Made.{values_of};
 ghost use Rattle.sve_store.specs.Values.{IsTable, IsAnswer, IsDone};
+ghost use Rattle.sve_store.specs.Told.{HasStopped};
 ghost use Rattle.sve_ask.specs.Sound.{Defined};
+ghost use Rattle.sve_ask.specs.Watched.{GaveMore};
+ghost use Rattle.sve_reader.specs.Noted.{above};
 ghost use Rattle.sve_reader.specs.UpToDate.{IsUpToDate};
 
 use std::alloc::Global;
@@ -31,7 +34,7 @@ pub struct Twice {
 /// is up to date from then on.
 ///
 /// # Errors
-/// The watch stopped it, or there was no memory.
+/// It was stopped by the first number above the newest revision that the watch gave, or there was no memory.
 pub fn answered<K: Ending, W: Watch>(
     alloc: Global,
     core: &mut Core<K>,
@@ -46,6 +49,9 @@ pub fn answered<K: Ending, W: Watch>(
     ensures answer { IfOk result.0 (λ answer. IsAnswer K.Key.cmp (values_of (K.given (newest_files core.old.history))) K.make K.answer_over query.now budget answer) }
     ensures quiet { (table : K.Key → ℕ → K.Value) → IsTable K.Key.cmp (values_of (K.given (newest_files core.old.history))) K.make table → ((k : K.Key) (f : ℕ) → K.is_input k ≡ false → K.asks_over table query.now budget k f → IsUpToDate (record { cmp = K.Key.cmp; given = K.given; make = K.make; ranked = K.ranked; serves = K.serves }) (newest_files core.old.history) [] core.old.memos k f) → K.counted kinds.new ≡ K.counted kinds.old }
     ensures done { (table : K.Key → ℕ → K.Value) → IsTable K.Key.cmp (values_of (K.given (newest_files core.old.history))) K.make table → IfOk result.0 (λ answer. IsDone answer → (k : K.Key) (f : ℕ) → K.is_input k ≡ false → K.asks_over table query.now budget k f → IsUpToDate (record { cmp = K.Key.cmp; given = K.given; make = K.make; ranked = K.ranked; serves = K.serves }) (newest_files core.old.history) [] core.new.memos k f) }
+    ensures gave { GaveMore (W.gave watch) (W.gave result.1) }
+    ensures stopped { IfErr result.0 (HasStopped (above (length core.old.history.entries) (W.gave watch)) (above (length core.old.history.entries) (W.gave result.1))) }
+    ensures went { OnOk result.0 (above (length core.old.history.entries) (W.gave result.1) ≡ above (length core.old.history.entries) (W.gave watch)) }
 {
     core.stays_sound();
     let lent = match core.begin(alloc) {
@@ -77,6 +83,8 @@ fn asked_again<K: Ending, W: Watch>(
     ensures first { IfOk result.0 (λ twice. IsAnswer K.Key.cmp (values_of (K.given (newest_files core.old.history))) K.make K.answer_over query.now budget twice.first) }
     ensures second { IfOk result.0 (λ twice. IsAnswer K.Key.cmp (values_of (K.given (newest_files core.old.history))) K.make K.answer_over query.now budget twice.second) }
     ensures nothing { IfOk result.0 (λ twice. IsDone twice.first → twice.computes ≡ 0) }
+    ensures gave { GaveMore (W.gave watch) (W.gave result.1) }
+    ensures stopped { IfErr result.0 (HasStopped (above (length core.old.history.entries) (W.gave watch)) (above (length core.old.history.entries) (W.gave result.1))) }
 {
     each_key_has_a_value::<K>();
     let before = kinds.computes();
@@ -99,7 +107,7 @@ fn asked_again<K: Ending, W: Watch>(
 /// Both answers are those of its definition; where the first one is done, nothing is computed for the second.
 ///
 /// # Errors
-/// The watch stopped it, or there was no memory.
+/// It was stopped by the first number above the newest revision that the watch gave, or there was no memory.
 pub fn answered_twice<K: Ending, W: Watch>(
     alloc: Global,
     core: &mut Core<K>,
@@ -113,6 +121,8 @@ pub fn answered_twice<K: Ending, W: Watch>(
     ensures first { IfOk result.0 (λ twice. IsAnswer K.Key.cmp (values_of (K.given (newest_files core.old.history))) K.make K.answer_over query.now budget twice.first) }
     ensures second { IfOk result.0 (λ twice. IsAnswer K.Key.cmp (values_of (K.given (newest_files core.old.history))) K.make K.answer_over query.now budget twice.second) }
     ensures nothing { IfOk result.0 (λ twice. IsDone twice.first → twice.computes ≡ 0) }
+    ensures gave { GaveMore (W.gave watch) (W.gave result.1) }
+    ensures stopped { IfErr result.0 (HasStopped (above (length core.old.history.entries) (W.gave watch)) (above (length core.old.history.entries) (W.gave result.1))) }
 {
     let (first, watch) = answered(alloc, core, kinds, query, budget, watch);
     match first {
