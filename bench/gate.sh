@@ -29,7 +29,9 @@ sample() {
 }
 
 anew=()
-if rt help 2>&1 | grep -q -- --anew; then
+# (grep -q would end the pipe early, and the pipe would count as failed)
+help=$(rt help 2>&1 || true)
+if [[ $help == *--anew* ]]; then
     anew=(--anew)
 fi
 env "$mark" rt ci "${anew[@]}" "$@" >"$log" 2>&1 &
