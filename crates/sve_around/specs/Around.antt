@@ -5,7 +5,7 @@ use Rattle.sve_tree.specs.declared.token_word.Word.{Word}
 use Rattle.sve_scope.specs.declared.declared.Declared.{Declared}
 use Rattle.sve_scope.specs.declared.scope.Scope.{Scope}
 use Rattle.sve_scope.specs.Lookup.{looked_up}
-use Rattle.sve_known.specs.declared.known.Known.{Known}
+use Rattle.sve_known.specs.Packages.{Known}
 use Rattle.sve_known.specs.Naming.{name_at}
 use Rattle.sve_use.specs.Uses.{uses}
 use Rattle.sve_connect.specs.Seen.{Seen}

@@ -7,7 +7,7 @@ use Rattle.sve_scope.specs.declared.what.Constant.{Constant}
 use Rattle.sve_scope.specs.declared.what.What.{What}
 use Rattle.sve_scope.specs.declared.what.What.TheVariants as is_what
 use Rattle.sve_scope.specs.Lookup.{Meaning, local, imported, two, nothing}
-use Rattle.sve_known.specs.declared.known.Known.{Known}
+use Rattle.sve_known.specs.Packages.{Known}
 use Rattle.sve_known.specs.Naming.{of_known}
 use Rattle.sve_connect.specs.Seen.{Stands, unknown, typed, faced, other}
 

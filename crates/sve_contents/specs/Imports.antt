@@ -1,6 +1,5 @@
 -- Imports of packages, one by one (IEEE 1800-2017, 26.3).
 use Rattle.std.specs.Prelude.{ℕ, List, Option, Some, None, Result, Ok, Err}
-use Rattle.std.specs.Arc.{arc_value}
 use Rattle.std.specs.List.{fold}
 use Rattle.sve_diag.specs.declared.code.Code.TheVariants.{N04, N05, N07}
 use Rattle.sve_fault.specs.declared.fault.Fault.{Fault}
@@ -15,8 +14,7 @@ use Rattle.sve_scope.specs.Scopes.{imported_as, importing, importing_all}
 use Rattle.sve_tree.specs.declared.declaration.ImportItem.{ImportItem}
 use Rattle.sve_tree.specs.declared.declaration.ImportItem.TheVariants as is_import
 use Rattle.sve_tree.specs.declared.token_word.Word.{Word}
-use Rattle.sve_known.specs.declared.known.Known.{Known}
-use Rattle.sve_known.specs.Packages.{package_name}
+use Rattle.sve_known.specs.Packages.{Known, names_of, own_scope, package_name}
 use Rattle.sve_known.specs.Naming.{name_at, named_fault, of_known}
 use Rattle.sve_contents.specs.declared.contents.Contents.{Contents}
 use Rattle.sve_contents.specs.declared.contents.Entering.{Entering}
@@ -47,7 +45,7 @@ with_found c token p n (Ok what) = importing_in c (record { name = n; from = p; 
 
 abbrev pub with_package : Contents → ℕ → ℕ → List ℕ → Option Known → Contents
 with_package c at star p None = said c (named_fault at N04 p)
-with_package c at star p (Some k) = importing_all_in c (record { from = p; names = arc_value k.names; at = spot_in c star })
+with_package c at star p (Some k) = importing_all_in c (record { from = p; names = names_of (own_scope k.facts); at = spot_in c star })
 
 module _ (packages : List Known) where
   -- the package's name stands at one token, and the name at another

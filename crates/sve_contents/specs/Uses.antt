@@ -9,7 +9,7 @@ use Rattle.sve_scope.specs.Scopes.{taking, taking_at}
 use Rattle.sve_tree.specs.declared.token_word.Word.{Word}
 use Rattle.sve_tree.specs.declared.word.PackageScope.{PackageScope}
 use Rattle.sve_tree.specs.declared.word.ScopedName.{ScopedName}
-use Rattle.sve_known.specs.declared.known.Known.{Known}
+use Rattle.sve_known.specs.Packages.{Known}
 use Rattle.sve_known.specs.Naming.{name_at, of_name}
 use Rattle.sve_contents.specs.declared.contents.Contents.{Contents}
 use Rattle.sve_contents.specs.Reading.{said, with_scope}

@@ -128,7 +128,7 @@ impl Contents {
         match packages.get(from) {
             Some(known) => {
                 let spot = self.spot(star)?;
-                let import = Wildcard::of(from.copy()?, Arc::try_clone(&known.names)?, spot);
+                let import = Wildcard::of(from.copy()?, Arc::try_clone(known.names())?, spot);
                 self.with_wildcard(import)
             }
             None => {

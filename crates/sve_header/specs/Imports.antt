@@ -4,7 +4,7 @@ use Rattle.std.specs.List.{fold}
 use Rattle.sve_tree.specs.declared.token_word.Word.{Word}
 use Rattle.sve_tree.specs.declared.declaration.Import.{Import}
 use Rattle.sve_tree.specs.declared.header.Header.{Header}
-use Rattle.sve_known.specs.declared.known.Known.{Known}
+use Rattle.sve_known.specs.Packages.{Known}
 use Rattle.sve_contents.specs.declared.contents.Contents.{Contents}
 use Rattle.sve_contents.specs.Imports.{with_items}
 

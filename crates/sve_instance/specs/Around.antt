@@ -2,7 +2,7 @@
 use Rattle.std.specs.Prelude.{ℕ, List, ◌∷◌, Option}
 use Rattle.sve_tree.specs.declared.token_word.Word.{Word}
 use Rattle.sve_scope.specs.declared.declared.Declared.{Declared}
-use Rattle.sve_known.specs.declared.known.Known.{Known}
+use Rattle.sve_known.specs.Packages.{Known}
 use Rattle.sve_contents.specs.declared.contents.Contents.{Contents}
 use Rattle.sve_connect.specs.declared.around.Net.{Net}
 use Rattle.sve_connect.specs.Seen.{Seen}

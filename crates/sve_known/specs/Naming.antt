@@ -1,6 +1,5 @@
 -- What names stand for where scopes and packages are known (IEEE 1800-2017, 6.5, 23.9 and 26.3).
 use Rattle.std.specs.Prelude.{ℕ, List, [], Option, Some, None, Result, Ok, Err, slice_get}
-use Rattle.std.specs.Arc.{arc_value}
 use Rattle.sve_diag.specs.declared.code.Code.{Code}
 use Rattle.sve_diag.specs.declared.code.Code.TheVariants.{N01, N04, N05, N06}
 use Rattle.sve_fault.specs.declared.fault.Fault.{Fault}
@@ -15,8 +14,7 @@ use Rattle.sve_tree.specs.declared.token_word.Word.{Word}
 use Rattle.sve_tree.specs.declared.word.PackageScope.{PackageScope}
 use Rattle.sve_tree.specs.declared.word.ScopedName.{ScopedName}
 use Rattle.sve_tree.specs.TokenWords.{bytes_in, name_in}
-use Rattle.sve_known.specs.declared.known.Known.{Known}
-use Rattle.sve_known.specs.Packages.{member, package_name}
+use Rattle.sve_known.specs.Packages.{Known, member, package_name}
 
 -- a fault at a token that says a name
 abbrev pub named_fault : ℕ → Code → List ℕ → Fault
@@ -46,7 +44,7 @@ of_member token n (Some d) = Ok d.what
 -- where a package of this name is known, whose name stands at this token
 abbrev pub of_package : ℕ → List ℕ → ℕ → List ℕ → Option Known → Result What Fault
 of_package at p token n None = Err (named_fault at N04 p)
-of_package at p token n (Some k) = of_member token n (member n (arc_value k.facts))
+of_package at p token n (Some k) = of_member token n (member n k.facts)
 
 module _ (packages : List Known) where
   abbrev pub of_known : ℕ → List ℕ → ℕ → List ℕ → Result What Fault

@@ -5,7 +5,7 @@ use Rattle.sve_fault.specs.declared.fault.Fault.{Fault}
 use Rattle.sve_scope.specs.declared.what.What.{What}
 use Rattle.sve_scope.specs.declared.what.What.TheVariants as is_what
 use Rattle.sve_tree.specs.declared.token_word.Word.{Word}
-use Rattle.sve_known.specs.declared.known.Known.{Known}
+use Rattle.sve_known.specs.Packages.{Known}
 use Rattle.sve_known.specs.Naming.{name_at, named_fault, of_name}
 use Rattle.sve_use.specs.Use.{plain}
 use Rattle.sve_contents.specs.declared.contents.Contents.{Contents}

@@ -13,7 +13,7 @@ use Rattle.sve_tree.specs.declared.element.Design.{Design}
 use Rattle.sve_tree.specs.declared.element.Design.TheVariants as is_design
 use Rattle.sve_tree.specs.declared.element.Package.{Package}
 use Rattle.sve_tree.specs.declared.token_word.Word.{Word}
-use Rattle.sve_known.specs.declared.known.Known.{Known}
+use Rattle.sve_known.specs.Packages.{Known}
 use Rattle.sve_known.specs.Naming.{name_at}
 use Rattle.sve_contents.specs.declared.contents.Contents.{Contents}
 use Rattle.sve_contents.specs.Reading.{empty_contents}

@@ -5,7 +5,7 @@ use Rattle.sve_tree.specs.declared.declaration.Parameters.{Parameters}
 use Rattle.sve_tree.specs.declared.declaration.Typedef.{Typedef}
 use Rattle.sve_tree.specs.declared.statement.Func.{Func}
 use Rattle.sve_tree.specs.declared.token_word.Word.{Word}
-use Rattle.sve_known.specs.declared.known.Known.{Known}
+use Rattle.sve_known.specs.Packages.{Known}
 use Rattle.sve_contents.specs.declared.contents.Contents.{Contents}
 
 pub record Readings : Type 0 where

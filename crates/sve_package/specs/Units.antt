@@ -5,7 +5,7 @@ use Rattle.sve_scope.specs.Scopes.{empty_scope}
 use Rattle.sve_tree.specs.declared.element.Element.{Element}
 use Rattle.sve_index.specs.declared.source.FileElement.{FileElement}
 use Rattle.sve_index.specs.Sources.{element_in}
-use Rattle.sve_known.specs.declared.known.Known.{Known}
+use Rattle.sve_known.specs.Packages.{Known}
 use Rattle.sve_contents.specs.declared.contents.Contents.{Contents}
 use Rattle.sve_contents.specs.Reading.{empty_contents}
 use Rattle.sve_package.specs.Packages.{with_items}

@@ -105,7 +105,7 @@ fn add_package(
         out.push(' ')?;
     }
     match known.get(name) {
-        Some(known) => add_facts(alloc, out, name, &known.facts),
+        Some(known) => add_facts(alloc, out, name, known.facts()),
         None => spell(out, name.bytes()),
     }
 }

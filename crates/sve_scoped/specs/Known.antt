@@ -2,7 +2,7 @@
 use Rattle.std.specs.Prelude.{List, ◌∷◌}
 use Rattle.sve_env.specs.Told.{Told}
 use Rattle.sve_tree.specs.declared.token_word.Word.{Word}
-use Rattle.sve_known.specs.declared.known.Known.{Known}
+use Rattle.sve_known.specs.Packages.{Known}
 use Rattle.sve_contents.specs.declared.contents.Contents.{Contents}
 use Rattle.sve_here.specs.Told.{known_here}
 

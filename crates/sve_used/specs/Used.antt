@@ -7,7 +7,7 @@ use Rattle.sve_fault.specs.declared.fault.Said.{Said}
 use Rattle.sve_fault.specs.declared.fault.Said.TheVariants as is_said
 use Rattle.sve_tree.specs.declared.token_word.Word.{Word}
 use Rattle.sve_use.specs.Use.{Called, Dotted, Named, Use, plain}
-use Rattle.sve_known.specs.declared.known.Known.{Known}
+use Rattle.sve_known.specs.Packages.{Known}
 use Rattle.sve_known.specs.Naming.{name_at, of_name}
 use Rattle.sve_contents.specs.declared.contents.Contents.{Contents}
 use Rattle.sve_contents.specs.Uses.{named_use, said_if, with_use, wrong_in}
