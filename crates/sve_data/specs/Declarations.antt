@@ -1,4 +1,4 @@
--- Declarations of data in a scope (IEEE 1800-2017, 6.8).
+-- Declarations of nets and of variables in a scope (IEEE 1800-2017, 6.7 and 6.8).
 use Rattle.std.specs.Prelude.{ℕ, List, [], Option, Some, None}
 use Rattle.sve_types.specs.DataType.{DataType}
 use Rattle.sve_env.specs.Told.{Told}
@@ -15,6 +15,7 @@ use Rattle.sve_tree.specs.declared.data_type.TypeRef.{TypeRef}
 use Rattle.sve_tree.specs.declared.data_type.TypeRef.TheVariants as is_type_ref
 use Rattle.sve_tree.specs.declared.declaration.DataDeclaration.{DataDeclaration}
 use Rattle.sve_tree.specs.declared.declaration.InitializedDeclarator.{InitializedDeclarator}
+use Rattle.sve_tree.specs.declared.declaration.NetDeclaration.{NetDeclaration}
 use Rattle.sve_tree.specs.declared.declaration.VariableDeclaration.{VariableDeclaration}
 use Rattle.sve_tree.specs.declared.statement.NamedDeclaration.{NamedDeclaration}
 use Rattle.sve_use.specs.Use.{Use}
@@ -26,6 +27,8 @@ use Rattle.sve_contents.specs.Reading.{noted_all}
 use Rattle.sve_contents.specs.Uses.{with_plain}
 use Rattle.sve_enumerated.specs.declared.passed.Passed.{Passed}
 use Rattle.sve_enumerated.specs.Types.{named_in_ref}
+use Rattle.sve_data.specs.declared.kind.DataKind.{DataKind}
+use Rattle.sve_data.specs.declared.kind.DataKind.TheVariants as is_kind
 use Rattle.sve_data.specs.Declarators.{initialized_behind}
 
 -- ---- where the text of a declaration begins that has no keyword in front of its type
@@ -59,26 +62,34 @@ declared_names ws ty p (is_declared.Implicit sign dimensions) = p
 
 module _ (known : Contents → Told) (used : Contents → Use → Contents) (ws : List Word) where
   -- the type is found once, in front of all names
-  abbrev pub all_names : DataType → Row InitializedDeclarator ℕ → ℕ → Passed → Contents
-  all_names ty row semicolon p = (initialized_behind known used ws ty row.separators.items semicolon 0 p row.items.items).contents
+  abbrev pub all_names : DataKind → DataType → Row InitializedDeclarator ℕ → ℕ → Passed → Contents
+  all_names kind ty row semicolon p = (initialized_behind known used ws kind ty row.separators.items semicolon 0 p row.items.items).contents
 
-  -- by their type
+  -- variables by their type
   abbrev pub data_over : Contents → DataDeclaration → Told → Outcome → Contents
-  data_over c w m o = all_names o.ty w.declarators w.semicolon (named_in_ref ws o.ty (begun ws (noted_all c (notes_in m o.faults)) w.data_type) w.data_type)
+  data_over c w m o = all_names is_kind.Variable o.ty w.declarators w.semicolon (named_in_ref ws o.ty (begun ws (noted_all c (notes_in m o.faults)) w.data_type) w.data_type)
 
   abbrev pub with_data : Contents → DataDeclaration → Contents
   with_data c w = data_over c w (known c) (referred (known c) w.data_type [])
 
-  -- with `var`, behind which the type may be left out
-  abbrev pub variables_over : Contents → VariableDeclaration → Told → Outcome → Contents
-  variables_over c w m o = all_names o.ty w.declarators w.semicolon (declared_names ws o.ty (record { contents = noted_all c (notes_in m o.faults); at = w.keyword }) w.data_type)
+  -- behind a keyword the type may be left out
+  abbrev pub keyword_over : DataKind → Passed → DeclaredType → Row InitializedDeclarator ℕ → ℕ → Told → Outcome → Contents
+  keyword_over kind p t row semicolon m o = all_names kind o.ty row semicolon (declared_names ws o.ty (record { contents = noted_all p.contents (notes_in m o.faults); at = p.at }) t)
 
+  abbrev pub behind_keyword : DataKind → Passed → DeclaredType → Row InitializedDeclarator ℕ → ℕ → Contents
+  behind_keyword kind p t row semicolon = keyword_over kind p t row semicolon (known p.contents) (declared (known p.contents) t)
+
+  -- nets, with the keyword of their net type
+  abbrev pub with_nets : Contents → NetDeclaration → Contents
+  with_nets c w = behind_keyword is_kind.Net (record { contents = c; at = w.net.token }) w.data_type w.declarators w.semicolon
+
+  -- variables, with `var`
   abbrev pub with_variables : Contents → VariableDeclaration → Contents
-  with_variables c w = variables_over c w (known c) (declared (known c) w.data_type)
+  with_variables c w = behind_keyword is_kind.Variable (record { contents = c; at = w.keyword }) w.data_type w.declarators w.semicolon
 
-  -- by the name of their type, with selects as its packed dimensions
+  -- variables by the name of their type, with selects as its packed dimensions
   abbrev pub named_over : Contents → NamedDeclaration → Told → Outcome → Contents
-  named_over c w m o = all_names o.ty w.declarators w.semicolon (name_begun ws (noted_all c (notes_in m o.faults)) w.name)
+  named_over c w m o = all_names is_kind.Variable o.ty w.declarators w.semicolon (name_begun ws (noted_all c (notes_in m o.faults)) w.name)
 
   abbrev pub with_named_data : Contents → NamedDeclaration → Contents
   with_named_data c w = named_over c w (known c) (type_selected (known c) w.name w.selects.items)

@@ -1,4 +1,2 @@
 pub mod Declarators
 pub mod Declarations
-pub mod Formals
-pub mod Loops

@@ -1,7 +1,7 @@
-//! Types where a scope's own text stands, whose nodes are not bounded.
-ghost use Rattle.std.specs.Prelude.{◌≡◌, [], IfOk};
+//! Types of data where the text of a scope was read so far, whose nodes are not bounded.
+ghost use Rattle.std.specs.Prelude.{◌≡◌, IfOk};
 ghost use Rattle.sve_assigned.specs.Assignments.{is_text};
-ghost use Rattle.sve_type_of.specs.TypeOf.{IsTyped, written};
+ghost use Rattle.sve_type_of.specs.TypeOf.{IsTyped};
 ghost use Rattle.sve_type_rule.specs.Outcomes.{scalar};
 ghost use Rattle.sve_scoped.specs.Known.{told_in};
 ghost use Rattle.sve_data.specs.Declarations.{type_selected};
@@ -10,26 +10,16 @@ use std::alloc::Global;
 use sve_bytes::{List, NoMemory};
 use sve_contents::Contents;
 use sve_scoped::{Text, around, ended, endless};
-use sve_tree::{DataType, ScopedName, Select};
-use sve_type_of::{Typed, keyword_type, selected_type};
+use sve_tree::{ScopedName, Select};
+use sve_type_of::{Typed, selected_type};
 use sve_types::{Base, Ty, Vec_};
 
-/// The type of a type that begins with a keyword, where the text of a scope was read so far, and what there is to say of it.
-pub(crate) fn keyword_in(
-    alloc: Global,
-    text: Text<'_>,
-    contents: &Contents,
-    data_type: &DataType,
-) -> Result<Typed, NoMemory>
-    ensures { IfOk result (λ t. IsTyped t (told_in text.entry.packages.now text.entry.words.now contents.now) (written (told_in text.entry.packages.now text.entry.words.now contents.now) data_type.now [])) }
-{
-    let env = around(alloc, text, contents);
-    ended(keyword_type(alloc, data_type, &env, &mut endless()))
-}
-
-/// The type of a name with selects behind it, which are its packed dimensions, where the text of a scope was read so far, and what there
-/// is to say of it.
-pub(crate) fn selected_in(
+/// The type of a name with selects behind it, which are its packed dimensions (IEEE 1800-2017, 6.18 and 7.4.1), where the text of a scope
+/// was read so far, and what there is to say of it.
+///
+/// # Errors
+/// For want of memory alone.
+pub fn selected_in(
     alloc: Global,
     text: Text<'_>,
     contents: &Contents,
@@ -43,7 +33,7 @@ pub(crate) fn selected_in(
 }
 
 /// One bit of four states, as which what has no type counts.
-pub(crate) fn scalar(alloc: Global) -> Ty
+pub fn scalar(alloc: Global) -> Ty
     ensures { result ≡ scalar }
 {
     Ty {

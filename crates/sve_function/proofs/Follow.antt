@@ -24,7 +24,7 @@ use Rattle.sve_scope.specs.declared.scope.Scope.{Scope}
 use Rattle.sve_scope.specs.declared.what.What.{What}
 use Rattle.sve_scope.specs.declared.what.What.TheVariants as is_what
 use Rattle.sve_scope.specs.Scopes.{empty_scope}
-use Rattle.sve_known.specs.declared.known.Known.{Known}
+use Rattle.sve_known.specs.Packages.{Known}
 use Rattle.sve_known.specs.Naming.{name_at, of_name}
 use Rattle.sve_heading.specs.declared.heading.Heading.{Heading}
 use Rattle.sve_heading.specs.Items.{headings}
@@ -46,8 +46,9 @@ use Rattle.sve_declare.specs.Alike.{TellAlike}
 use Rattle.sve_declare.proofs.Alike.{imports_alike, imports_hold, known_in, name_alike, with_parameters_alike, with_parameters_hold, with_typedef_alike, with_typedef_holds}
 use Rattle.sve_declare.proofs.Holding.{AreNamed, Holds, of_declared, of_out_if, of_passed, of_ref, of_said, of_use}
 use Rattle.sve_used.specs.Used.{dotted_use, hierarchical, name_used}
-use Rattle.sve_data.specs.Formals.{with_formals}
-use Rattle.sve_data.proofs.Follow.{Keeps, SameIn, formals_alike, formals_keep}
+use Rattle.sve_data.proofs.Follow.{Keeps, SameIn}
+use Rattle.sve_formal_data.specs.Formals.{with_formals}
+use Rattle.sve_formal_data.proofs.Follow.{formals_alike, formals_keep}
 use Rattle.sve_local.specs.Steps.{stepped}
 use Rattle.sve_local.proofs.Follow.{KeepsToo, steps_alike, steps_keep}
 use Rattle.sve_function.specs.Functions.{body_over, function_name, names_of_result, own_variable, result_in, result_over, with_function, with_result_type}

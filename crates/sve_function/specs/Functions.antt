@@ -24,7 +24,7 @@ use Rattle.sve_enumerated.specs.Passing.{passed_to}
 use Rattle.sve_enumerated.specs.Types.{named_in_ref}
 use Rattle.sve_assigned.specs.Assignments.{is_text}
 use Rattle.sve_scoped.specs.Said.{declared_at, out_if}
-use Rattle.sve_data.specs.Formals.{with_formals}
+use Rattle.sve_formal_data.specs.Formals.{with_formals}
 use Rattle.sve_local.specs.Steps.{stepped}
 
 -- the names that the type of a result declares stand in the scope around

@@ -10,8 +10,8 @@ ghost use Rattle.sve_tree.specs.declared.statement.FunctionResult.TheVariants as
 use std::alloc::Global;
 use sve_bytes::NoMemory;
 use sve_contents::Contents;
-use sve_data::with_formals;
 use sve_enumerated::{Passed, with_names};
+use sve_formal_data::with_formals;
 use sve_local::items_within;
 use sve_scope::{SharedType, What};
 use sve_scoped::{Text, declared_at, declared_in, out_if};

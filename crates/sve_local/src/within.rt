@@ -1,10 +1,9 @@
 use std::alloc::Global;
 use sve_bytes::NoMemory;
 use sve_contents::Contents;
-use sve_data::{
-    with_data, with_indices, with_loop, with_named_data, with_named_loop, with_variables,
-};
+use sve_data::{with_data, with_named_data, with_variables};
 use sve_declare::{with_parameters, with_typedef};
+use sve_loop_data::{with_indices, with_loop, with_named_loop};
 use sve_scoped::Text;
 use sve_statement_use::Scopes;
 use sve_tree::{

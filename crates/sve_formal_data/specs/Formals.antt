@@ -15,9 +15,10 @@ use Rattle.sve_contents.specs.declared.contents.Contents.{Contents}
 use Rattle.sve_contents.specs.Reading.{noted_all}
 use Rattle.sve_enumerated.specs.declared.passed.Passed.{Passed}
 use Rattle.sve_enumerated.specs.Names.{separator}
-use Rattle.sve_data.specs.declared.formals.Typing.{Typing}
+use Rattle.sve_data.specs.declared.kind.DataKind.TheVariants as is_kind
 use Rattle.sve_data.specs.Declarators.{declarator_after}
 use Rattle.sve_data.specs.Declarations.{declared_names}
+use Rattle.sve_formal_data.specs.declared.formals.Typing.{Typing}
 
 -- nothing is written of a type
 abbrev pub is_left_out : DeclaredType → Bool
@@ -32,7 +33,7 @@ formal_typed m before f = if is_none f.direction && is_left_out f.parameter.data
 module _ (known : Contents → Told) (ws : List Word) where
   abbrev pub formal_over : Passed → Formal → ℕ → Told → Outcome → Typing
   formal_over p f end m o = record {
-    passed = declarator_after known ws o.ty (declared_names ws o.ty (record { contents = noted_all p.contents (notes_in m o.faults); at = p.at }) f.parameter.data_type) f.parameter.declarator end;
+    passed = declarator_after known ws is_kind.Variable o.ty (declared_names ws o.ty (record { contents = noted_all p.contents (notes_in m o.faults); at = p.at }) f.parameter.data_type) f.parameter.declarator end;
     ty = o.ty;
   }
 

@@ -21,9 +21,10 @@ use Rattle.sve_contents.specs.Reading.{noted_all}
 use Rattle.sve_enumerated.specs.declared.passed.Passed.{Passed}
 use Rattle.sve_enumerated.specs.Types.{named_in}
 use Rattle.sve_scoped.specs.Said.{declared_at}
-use Rattle.sve_data.specs.declared.loops.Looping.{Looping}
+use Rattle.sve_data.specs.declared.kind.DataKind.TheVariants as is_kind
 use Rattle.sve_data.specs.Declarators.{declarator_after}
 use Rattle.sve_data.specs.Declarations.{name_begun, type_selected, type_token}
+use Rattle.sve_loop_data.specs.declared.loops.Looping.{Looping}
 
 -- ---- the variables of a `for`: one without a type has that of the one before
 
@@ -45,7 +46,7 @@ loop_names ws ty p (Some d) = named_in ws ty p d
 module _ (known : Contents → Told) (used : Contents → Use → Contents) (ws : List Word) where
   -- a variable is seen in its first value
   abbrev pub first_valued : DataType → Passed → Declarator → Initializer → Contents
-  first_valued ty p d v = fold used (declarator_after known ws ty p d v.equals).contents (uses v.value.value)
+  first_valued ty p d v = fold used (declarator_after known ws is_kind.Variable ty p d v.equals).contents (uses v.value.value)
 
   abbrev pub variable_over : Contents → ForVariable → Told → Outcome → Looping
   variable_over c v m o = record {

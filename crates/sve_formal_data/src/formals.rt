@@ -2,14 +2,12 @@
 ghost use Rattle.std.specs.Prelude.{◌≡◌, IfOk};
 ghost use Rattle.sve_type_of.specs.TypeOf.{IsTyped};
 ghost use Rattle.sve_scoped.specs.Known.{told_in};
-ghost use Rattle.sve_data.specs.Formals.{formal_after, formal_typed, formals_behind, is_left_out, with_formals};
+ghost use Rattle.sve_formal_data.specs.Formals.{formal_after, formal_typed, formals_behind, is_left_out, with_formals};
 
-use crate::declarations::declared_names;
-use crate::declarators::{declarator_after, separator};
-use crate::known::scalar;
 use std::alloc::Global;
 use sve_bytes::{List, NoMemory};
 use sve_contents::Contents;
+use sve_data::{DataKind, declarator_after, declared_names, scalar, separator};
 use sve_enumerated::Passed;
 use sve_scoped::{Text, declared_in};
 use sve_tree::{DeclaredType, Formal, Formals};
@@ -72,7 +70,8 @@ fn formal_after(
     let passed = Passed { contents, at };
     let parameter = &formal.parameter;
     let passed = declared_names(alloc, text.words, &ty, passed, &parameter.data_type)?;
-    let passed = declarator_after(alloc, text, &ty, passed, &parameter.declarator, end)?;
+    let kind = DataKind::Variable;
+    let passed = declarator_after(alloc, text, kind, &ty, passed, &parameter.declarator, end)?;
     Ok(Typing { passed, ty })
 }
 

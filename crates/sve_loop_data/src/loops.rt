@@ -1,21 +1,19 @@
 //! The variables of loops.
-ghost use Rattle.std.specs.Prelude.{◌≡◌, IfOk};
-ghost use Rattle.sve_type_of.specs.TypeOf.{IsTyped};
+ghost use Rattle.std.specs.Prelude.{◌≡◌, [], IfOk};
+ghost use Rattle.sve_type_of.specs.TypeOf.{IsTyped, written};
 ghost use Rattle.sve_used.specs.Used.{name_used};
 ghost use Rattle.sve_scoped.specs.Known.{told_in};
-ghost use Rattle.sve_data.specs.Loops.{all_variables, first_valued, index_after, int_type, loop_names, loop_token, loop_typed, variable_after, with_indices, with_loop, with_named_loop};
+ghost use Rattle.sve_loop_data.specs.Loops.{all_variables, first_valued, index_after, int_type, loop_names, loop_token, loop_typed, variable_after, with_indices, with_loop, with_named_loop};
 
-use crate::declarations::{name_begun, type_token};
-use crate::declarators::declarator_after;
-use crate::known::{keyword_in, scalar, selected_in};
 use std::alloc::Global;
 use sve_bytes::{List, NoMemory};
 use sve_contents::Contents;
+use sve_data::{DataKind, declarator_after, name_begun, scalar, selected_in, type_token};
 use sve_enumerated::{Passed, with_keyword_names};
 use sve_scope::{SharedType, What};
-use sve_scoped::{Text, declared_at};
+use sve_scoped::{Text, around, declared_at, ended, endless};
 use sve_tree::{DataType, Declarator, ForVariable, Initializer, ScopedName, Select, Word};
-use sve_type_of::Typed;
+use sve_type_of::{Typed, keyword_type};
 use sve_types::{Atom, Base, Ty};
 use sve_used::names_used;
 
@@ -26,6 +24,19 @@ pub(crate) struct Looping {
     pub(crate) contents: Contents,
     /// The type of that variable, without the dimensions behind its name.
     pub(crate) ty: Ty,
+}
+
+/// The type of a type that begins with a keyword, where the text of a scope was read so far, and what there is to say of it.
+fn keyword_in(
+    alloc: Global,
+    text: Text<'_>,
+    contents: &Contents,
+    data_type: &DataType,
+) -> Result<Typed, NoMemory>
+    ensures { IfOk result (λ t. IsTyped t (told_in text.entry.packages.now text.entry.words.now contents.now) (written (told_in text.entry.packages.now text.entry.words.now contents.now) data_type.now [])) }
+{
+    let env = around(alloc, text, contents);
+    ended(keyword_type(alloc, data_type, &env, &mut endless()))
 }
 
 /// The type of a variable, behind one of this type.
@@ -85,7 +96,8 @@ fn first_valued(
 ) -> Result<Contents, NoMemory>
     ensures { IfOk result (λ c. c ≡ first_valued (told_in text.entry.packages.now text.entry.words.now) (name_used text.entry.packages.now text.entry.words.now) text.entry.words.now ty.now passed declarator.now value.now) }
 {
-    let passed = declarator_after(alloc, text, ty, passed, declarator, value.equals)?;
+    let kind = DataKind::Variable;
+    let passed = declarator_after(alloc, text, kind, ty, passed, declarator, value.equals)?;
     let Passed { contents, at: _ } = passed;
     names_used(alloc, text, contents, &value.value)
 }
