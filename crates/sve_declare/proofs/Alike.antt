@@ -8,7 +8,6 @@ use Rattle.sve_diag.specs.declared.code.Code.TheVariants.{C01, N04, N05}
 use Rattle.sve_fault.specs.declared.fault.Fault.{Fault}
 use Rattle.sve_fault.specs.Faults.{after, fault_at}
 use Rattle.sve_env.specs.Told.{Told}
-use Rattle.std.specs.Arc.{arc_value}
 use Rattle.sve_table.specs.Tables.{item_of, with_item as with_table_item}
 use Rattle.sve_facts.specs.declared.facts.Facts.{Facts}
 use Rattle.sve_types.specs.DataType as types
@@ -34,8 +33,7 @@ use Rattle.sve_scope.specs.Imports.{WildcardImport}
 use Rattle.sve_scope.specs.Lookup.{Meaning, local, imported, two, nothing, candidate, candidates, from_candidates, in_declared, in_imports, in_scope, in_scopes, looked_up, or_else, seen_declaration, seen_import}
 use Rattle.sve_scope.specs.Scopes.{import_name, import_of, imported_as, importing, is_declared_before, wildcard_name}
 use Rattle.sve_scope.specs.Spots.{spot, stands_before}
-use Rattle.sve_known.specs.declared.known.Known.{Known}
-use Rattle.sve_known.specs.Packages.{member, package_name}
+use Rattle.sve_known.specs.Packages.{Known, member, names_of, own_scope, package_name}
 use Rattle.sve_known.specs.Naming.{name_at, named_fault, of_known, of_member, of_meaning, of_name, of_name_in, of_package, of_plain, of_scoped, text_at}
 use Rattle.sve_known.specs.Constants.{first_token, type_of, value_of}
 use Rattle.sve_contents.specs.declared.contents.Contents.{Contents}
@@ -53,27 +51,27 @@ use Rattle.sve_enumerated.specs.Types.{named_in_ref}
 use Rattle.sve_scoped.specs.Known.{told_in}
 use Rattle.sve_scoped.specs.Said.{out_if}
 use Rattle.sve_declare.specs.declared.parameters.Found.{Found}
-use Rattle.sve_declare.specs.Alike.{TellAlike, tells}
+use Rattle.sve_declare.specs.Alike.{TellAlike}
 use Rattle.sve_declare.specs.Parameters.{behind_uses, found_in as parameter_found, kept, names_declared, note_in, parameter_after, parameters_behind, parameters_over, said_of, separator, with_parameters, with_value}
 use Rattle.sve_declare.specs.Typedefs.{named_over, with_named_type, with_type, with_typedef}
 use Rattle.sve_declare.proofs.Holding.{AllNamed, AreNamed, Holds, Named, OneNamed, of_declared, of_note, of_out_if, of_passed, of_ref, of_said, with_one}
 
 -- ---- what a package tells
 
-by_told : ℕ → List ℕ → ℕ → List ℕ → Option (Facts × List (List ℕ)) → Result What Fault
+by_told : ℕ → List ℕ → ℕ → List ℕ → Option Facts → Result What Fault
 by_told at p token n None = Err (named_fault at N04 p)
-by_told at p token n (Some t) = of_member token n (member n t.0)
+by_told at p token n (Some t) = of_member token n (member n t)
 
-package_told : (at : ℕ) (p : List ℕ) (token : ℕ) (n : List ℕ) (x : Option Known) → of_package at p token n x ≡ by_told at p token n (option_map (λ k. tells k) x)
+package_told : (at : ℕ) (p : List ℕ) (token : ℕ) (n : List ℕ) (x : Option Known) → of_package at p token n x ≡ by_told at p token n (option_map (λ k. k.facts) x)
 unfolding by_told
 package_told at p token n None = refl
 package_told at p token n (Some k) = refl
 
-all_by_told : Contents → ℕ → ℕ → List ℕ → Option (Facts × List (List ℕ)) → Contents
+all_by_told : Contents → ℕ → ℕ → List ℕ → Option Facts → Contents
 all_by_told c at star p None = said c (named_fault at N04 p)
-all_by_told c at star p (Some t) = importing_all_in c (record { from = p; names = t.1; at = spot_in c star })
+all_by_told c at star p (Some t) = importing_all_in c (record { from = p; names = names_of (own_scope t); at = spot_in c star })
 
-all_told : (c : Contents) (at star : ℕ) (p : List ℕ) (x : Option Known) → with_package c at star p x ≡ all_by_told c at star p (option_map (λ k. tells k) x)
+all_told : (c : Contents) (at star : ℕ) (p : List ℕ) (x : Option Known) → with_package c at star p x ≡ all_by_told c at star p (option_map (λ k. k.facts) x)
 unfolding all_by_told
 all_told c at star p None = refl
 all_told c at star p (Some k) = refl
@@ -223,7 +221,7 @@ module _ (ws : List Word) (ps qs : List Known) (alike : TellAlike ws ps qs) wher
 
   package_holds : (c : Contents) (at star : ℕ) (p : List ℕ) (x : Option Known) → Named ws p → Holds ws c → Holds ws (with_package c at star p x)
   package_holds c at star p None e h = of_said ws c (named_fault at N04 p) h
-  package_holds c at star p (Some k) e h = ((h.0.0, with_one (AllNamed ws) wildcard_name c.scope.wild (record { from = p; names = arc_value k.names; at = spot_in c star }) h.0.1 e), h.1)
+  package_holds c at star p (Some k) e h = ((h.0.0, with_one (AllNamed ws) wildcard_name c.scope.wild (record { from = p; names = names_of (own_scope k.facts); at = spot_in c star }) h.0.1 e), h.1)
 
   all_import_holds : (c : Contents) (at star : ℕ) (p : Option (List ℕ)) → name_at ws at ≡ p → Holds ws c → Holds ws (with_all qs c at star p)
   all_import_holds c at star None e h = of_said ws c (fault_at at N04) h

@@ -23,7 +23,9 @@ use Rattle.sve_assigned.specs.declared.form.Form.{Form}
 use Rattle.sve_assigned.specs.declared.form.Form.TheVariants as is_form
 use Rattle.sve_assigned.specs.Assignments.{default_value, told_of}
 use Rattle.sve_assigned.specs.Forms.{Formation, formed}
+use Rattle.sve_declare.specs.declared.parameters.Begun.{Begun}
 use Rattle.sve_declare.specs.declared.parameters.Found.{Found}
+use Rattle.sve_declare.specs.declared.parameters.Settled.{Settled}
 use Rattle.sve_scoped.specs.Said.{declared_at, out_if}
 
 -- ---- what a parameter stands for
@@ -50,13 +52,17 @@ note_in (Ok a) = None
 abbrev pub is_out : Bool → ParameterAssignment → Bool
 is_out is_array a = is_array || not (is_empty a.declarator.dimensions.items)
 
--- what is found of it, where it stands
-abbrev pub found_in : Told → Form → Bool → ParameterAssignment → Found
-found_in m form is_array a = record {
+-- what is found of one with this value
+abbrev pub found_with : Told → Bool → ParameterAssignment → Result Assigned (Option Note) → Found
+found_with m is_array a value = record {
   is_out = is_out is_array a;
   notes = notes_in m (unpacked_over m scalar a.declarator.dimensions.items).faults;
-  value = told_of m (default_value m form a.value.value.value);
+  value = value;
 }
+
+-- what is found of it, where it stands
+abbrev pub found_in : Told → Form → Bool → ParameterAssignment → Found
+found_in m form is_array a = found_with m is_array a (told_of m (default_value m form a.value.value.value))
 
 -- ---- how it comes into the scope
 
@@ -67,12 +73,19 @@ behind_uses ws p token from = passed_to ws (passed_to ws p token) from
 abbrev pub said_of : List Word → Contents → Found → ℕ → Contents
 said_of ws c found token = noted_if (noted_all (out_if ws c token found.is_out) found.notes) (note_in found.value)
 
-abbrev pub declared_behind : List Word → Passed → ℕ → Constant → ℕ → Passed
-declared_behind ws p token constant from = record { contents = declared_at ws p.contents token (is_what.LocalParameter constant) from; at = p.at }
+-- all is said of it; its name is not declared yet
+abbrev pub all_said : List Word → Form → Passed → Found → ℕ → ℕ → Settled
+all_said ws form p found token from = record {
+  passed = behind_uses ws (record { contents = said_of ws p.contents found token; at = p.at }) token from;
+  constant = kept form found.is_out found.value;
+}
+
+-- and then it stands in the scope, as one that nothing overrides
+abbrev pub declared_behind : List Word → Settled → ℕ → ℕ → Passed
+declared_behind ws s token from = record { contents = declared_at ws s.passed.contents token (is_what.LocalParameter s.constant) from; at = s.passed.at }
 
 unfoldable pub with_value : List Word → Form → Passed → Found → ℕ → ℕ → Passed
-with_value ws form p found token from =
-    declared_behind ws (behind_uses ws (record { contents = said_of ws p.contents found token; at = p.at }) token from) token (kept form found.is_out found.value) from
+with_value ws form p found token from = declared_behind ws (all_said ws form p found token from) token from
 
 -- the token behind the parameter at a place of a declaration
 abbrev pub token_or : ℕ → Option ℕ → ℕ
@@ -100,11 +113,21 @@ names_declared ws (is_form.Typed ty) p (is_declared.Explicit t) = named_in_ref w
 
 module _ (known : Contents → Told) (ws : List Word) where
   -- the type is found once, in front of all of them
+  abbrev pub front_by : Contents → Parameters → Told → Formation → Begun
+  front_by c written m f = record {
+    form = f.form;
+    is_array = f.is_array;
+    passed = names_declared ws f.form (record { contents = noted_all c (notes_in m f.faults); at = written.keyword.token }) written.data_type;
+  }
+
+  abbrev pub in_front : Contents → Parameters → Begun
+  in_front c written = front_by c written (known c) (formed (known c) written.data_type)
+
+  abbrev pub all_behind : Parameters → Begun → Contents
+  all_behind written b = (parameters_behind known ws b.form b.is_array written 0 b.passed written.assignments.items.items).contents
+
   abbrev pub parameters_over : Contents → Parameters → Told → Formation → Contents
-  parameters_over c written m f =
-      (parameters_behind known ws f.form f.is_array written 0
-      (names_declared ws f.form (record { contents = noted_all c (notes_in m f.faults); at = written.keyword.token }) written.data_type)
-      written.assignments.items.items).contents
+  parameters_over c written m f = all_behind written (front_by c written m f)
 
   abbrev pub with_parameters : Contents → Parameters → Contents
   with_parameters c written = parameters_over c written (known c) (formed (known c) written.data_type)

@@ -5,5 +5,8 @@
 mod parameters;
 mod typedefs;
 
-pub use parameters::{Meant, kept, names_declared, separator, with_parameters};
+pub use parameters::{
+    Begun, Found, Meant, Settled, all_said, found_with, in_front, kept, names_declared, separator,
+    with_parameters,
+};
 pub use typedefs::with_typedef;

@@ -1,7 +1,7 @@
 //! Parameters in a scope.
 ghost use Rattle.std.specs.Prelude.{◌≡◌, IfOk};
 ghost use Rattle.sve_scoped.specs.Known.{told_in};
-ghost use Rattle.sve_declare.specs.Parameters.{form_type, found_in, is_out, kept, names_declared, note_in, parameter_after, parameters_behind, separator, with_parameters, with_value};
+ghost use Rattle.sve_declare.specs.Parameters.{all_said, form_type, found_in, found_with, in_front, is_out, kept, names_declared, note_in, parameter_after, parameters_behind, separator, with_parameters, with_value};
 
 use std::alloc::Global;
 use sve_assigned::{Assigned, Form, Formed};
@@ -15,13 +15,33 @@ use sve_tree::{DeclaredType, ParameterAssignment, Parameters, Word};
 
 /// What is found of a parameter before it is declared.
 #[derive(Drop)]
-pub(crate) struct Found {
+pub struct Found {
     /// Whether its type is out for a parameter, which has no value then.
-    pub(crate) is_out: bool,
+    pub is_out: bool,
     /// What there is to say of its dimensions.
-    pub(crate) notes: List<Note>,
+    pub notes: List<Note>,
     /// Its type and its value, or what there is to say of it.
-    pub(crate) value: Result<Assigned, Option<Note>>,
+    pub value: Result<Assigned, Option<Note>>,
+}
+
+/// A parameter of which all is said, before its name comes into the scope.
+#[derive(Drop)]
+pub struct Settled {
+    /// The scope, whose text was looked through up to the token from which the parameter is seen.
+    pub passed: Passed,
+    /// What it stands for.
+    pub constant: Constant,
+}
+
+/// A declaration of parameters, in front of the first of them.
+#[derive(Drop)]
+pub struct Begun {
+    /// What it says of their type.
+    pub form: Form,
+    /// Whether their type has unpacked dimensions, with which it is out for a parameter.
+    pub is_array: bool,
+    /// The scope, behind the names that their type declares.
+    pub passed: Passed,
 }
 
 /// The type of parameters that the declaration itself tells.
@@ -93,6 +113,37 @@ fn is_out(is_array: bool, assignment: &ParameterAssignment) -> bool
     is_array || !assignment.declarator.dimensions.is_empty()
 }
 
+/// Says what there is to say of a parameter at a token, of which this is found, and looks through the text up to the token from which it
+/// is seen (IEEE 1800-2017, 6.20 and 26.3): of its unpacked dimensions (E06) first, then of its value. What it stands for is not declared
+/// yet.
+///
+/// # Errors
+/// For want of memory alone.
+pub fn all_said(
+    alloc: Global,
+    words: &[Word],
+    form: &Form,
+    passed: Passed,
+    found: Found,
+    token: u32,
+    from: u32,
+) -> Result<Settled, NoMemory>
+    ensures { IfOk result (λ s. s ≡ all_said words.now form.now passed found token from) }
+{
+    let Passed { contents, at } = passed;
+    let Found {
+        is_out,
+        notes,
+        value,
+    } = found;
+    let contents = out_if(words, contents, token, is_out)?;
+    let contents = contents.with_notes(notes)?;
+    let Meant { constant, note } = kept(alloc, form, is_out, value)?;
+    let contents = contents.noted(note)?;
+    let passed = Passed { contents, at }.to(words, token)?.to(words, from)?;
+    Ok(Settled { passed, constant })
+}
+
 /// A parameter with what is found of it, which is seen from a token on.
 #[tactic(auto, unfolding(crate::specs::Parameters::with_value))]
 fn with_value(
@@ -106,17 +157,8 @@ fn with_value(
 ) -> Result<Passed, NoMemory>
     ensures { IfOk result (λ p. p ≡ with_value words.now form.now passed found token from) }
 {
+    let Settled { passed, constant } = all_said(alloc, words, form, passed, found, token, from)?;
     let Passed { contents, at } = passed;
-    let Found {
-        is_out,
-        notes,
-        value,
-    } = found;
-    let contents = out_if(words, contents, token, is_out)?;
-    let contents = contents.with_notes(notes)?;
-    let Meant { constant, note } = kept(alloc, form, is_out, value)?;
-    let contents = contents.noted(note)?;
-    let Passed { contents, at } = Passed { contents, at }.to(words, token)?.to(words, from)?;
     let contents = declared_at(words, contents, token, What::LocalParameter(constant), from)?;
     Ok(Passed { contents, at })
 }
@@ -131,6 +173,29 @@ pub fn separator(written: &Parameters, place: usize) -> u32
     }
 }
 
+/// What is found of a parameter that has this value, or of whose value this is to be said, where the text of a scope was read so far.
+///
+/// # Errors
+/// For want of memory alone.
+pub fn found_with(
+    alloc: Global,
+    text: Text<'_>,
+    contents: &Contents,
+    is_array: bool,
+    assignment: &ParameterAssignment,
+    value: Result<Assigned, Option<Note>>,
+) -> Result<Found, NoMemory>
+    ensures { IfOk result (λ f. f ≡ found_with (told_in text.entry.packages.now text.entry.words.now contents.now) is_array assignment.now value) }
+{
+    let dimensions = &assignment.declarator.dimensions;
+    let notes = dimension_notes(alloc, text, contents, dimensions)?;
+    Ok(Found {
+        is_out: is_out(is_array, assignment),
+        notes,
+        value,
+    })
+}
+
 /// What is found of a parameter where it stands.
 fn found_in(
     alloc: Global,
@@ -142,14 +207,8 @@ fn found_in(
 ) -> Result<Found, NoMemory>
     ensures { IfOk result (λ f. f ≡ found_in (told_in text.entry.packages.now text.entry.words.now contents.now) form.now is_array assignment.now) }
 {
-    let dimensions = &assignment.declarator.dimensions;
-    let notes = dimension_notes(alloc, text, contents, dimensions)?;
     let value = assigned_in(alloc, text, contents, form, &assignment.value.value)?;
-    Ok(Found {
-        is_out: is_out(is_array, assignment),
-        notes,
-        value,
-    })
+    found_with(alloc, text, contents, is_array, assignment, value)
 }
 
 /// The parameter at a place of a declaration.
@@ -217,6 +276,35 @@ pub fn names_declared(
     }
 }
 
+/// What a declaration of parameters says of their type, and the scope behind what there is to say of that and behind the names that the
+/// type declares (IEEE 1800-2017, 6.19 and 6.20.2), in front of the first of them.
+///
+/// # Errors
+/// For want of memory alone.
+pub fn in_front(
+    alloc: Global,
+    text: Text<'_>,
+    contents: Contents,
+    written: &Parameters,
+) -> Result<Begun, NoMemory>
+    ensures { IfOk result (λ b. b ≡ in_front (told_in text.entry.packages.now text.entry.words.now) text.entry.words.now contents written.now) }
+{
+    let Formed {
+        form,
+        is_array,
+        notes,
+    } = formed_in(alloc, text, &contents, &written.data_type)?;
+    let contents = contents.with_notes(notes)?;
+    let at = written.keyword.token;
+    let passed = Passed { contents, at };
+    let passed = names_declared(alloc, text.words, &form, passed, &written.data_type)?;
+    Ok(Begun {
+        form,
+        is_array,
+        passed,
+    })
+}
+
 /// What a declaration of parameters leaves in a scope in which none can be overridden (IEEE 1800-2017, 6.20), as a package, a compilation
 /// unit, a generate block, a function or a block of statements: the names of the enumeration that their type may be, then one parameter
 /// after another, each over those before it. Unpacked dimensions are out for a parameter (E06), and what there is to say of its type and
@@ -232,15 +320,11 @@ pub fn with_parameters(
 ) -> Result<Contents, NoMemory>
     ensures { IfOk result (λ c. c ≡ with_parameters (told_in text.entry.packages.now text.entry.words.now) text.entry.words.now contents written.now) }
 {
-    let Formed {
+    let Begun {
         form,
         is_array,
-        notes,
-    } = formed_in(alloc, text, &contents, &written.data_type)?;
-    let contents = contents.with_notes(notes)?;
-    let at = written.keyword.token;
-    let passed = Passed { contents, at };
-    let passed = names_declared(alloc, text.words, &form, passed, &written.data_type)?;
+        passed,
+    } = in_front(alloc, text, contents, written)?;
     let Passed { contents, at: _ } = all_parameters(alloc, text, &form, is_array, written, passed)?;
     Ok(contents)
 }
