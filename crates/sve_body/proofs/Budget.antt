@@ -4,13 +4,12 @@ use Rattle.std.specs.Prelude.{sum_by}
 use Rattle.std.proofs.lemmas.List.Sums.{sum_by-cons}
 use Rattle.sve_fault.specs.declared.fault.Fault.{Fault}
 use Rattle.sve_grammar.specs.Reading.{leaf, pair, turn}
-use Rattle.sve_tree.specs.Shape.{first_of, first_token_of, optional_tree, others_of, row_first, row_rest}
+use Rattle.sve_tree.specs.Shape.{first_of, optional_tree, others_of, row_first, row_rest}
 use Rattle.sve_tree.specs.Words.{label_tree}
 use Rattle.sve_tree.specs.declared.expression.Parenthesized.{Parenthesized}
 use Rattle.sve_tree.specs.Expressions.{parenthesized_tree, tree_at}
 use Rattle.sve_tree.specs.Declarations.{header_tree}
 use Rattle.sve_tree.specs.Items.{case_generate_item_tree, case_generate_item_trees, generate_block_tree, if_generate_tree, item_row, item_tree, optional_else_generate}
-use Rattle.sve_tree.specs.declared.word.Label.{Label}
 use Rattle.sve_tree.specs.declared.header.Header.{Header}
 use Rattle.sve_tree.specs.declared.item.Instance.{Instance}
 use Rattle.sve_tree.specs.declared.item.Instantiation.{Instantiation}
@@ -27,7 +26,7 @@ use Rattle.sve_tree.specs.declared.item.CaseGenerateItem.TheVariants as is_case_
 use Rattle.sve_spec.specs.Specialization.{Specialization}
 use Rattle.sve_env.specs.Nodes.{nodes}
 use Rattle.sve_measure.specs.Constants.{measured}
-use Rattle.sve_generate.specs.Constructs.{nesting_fault, token_or}
+use Rattle.sve_generate.specs.Constructs.{block_token, nesting_fault}
 use Rattle.sve_choice.specs.Conditions.{faults_in, holds}
 use Rattle.sve_choice.specs.Labels.{case_nodes, chosen, item_nodes}
 use Rattle.sve_item_names.specs.Declarations.{parameters_of, ports_of}
@@ -38,7 +37,7 @@ use Rattle.sve_look.specs.Questions.{ElementOf, IndexOf, NetAt, PortsOf, Reply}
 use Rattle.sve_body.specs.declared.place.Place.{Place}
 use Rattle.sve_body.specs.Steps.{Steps}
 use Rattle.sve_body.specs.Items.{assignment, assignment_uses, done, header, implied, instance, instances, instances_of, known_instance, plain_item, say_all, sought_instances, unknown_instance, use_all}
-use Rattle.sve_body.specs.Body.{begun, block_in, block_of, block_within, body, by_number, case_in, case_item_at, case_item_in, counted_item, else_in, if_in, is_part, item, items_in, label_is_wrong, number_in}
+use Rattle.sve_body.specs.Body.{begun, block_in, block_label, block_of, block_within, body, by_number, case_in, case_item_at, case_item_in, counted_item, else_in, if_in, is_part, item, items_in, label_is_wrong, number_in}
 use Rattle.sve_body.specs.Budget.{AreModest, AreModestCases, IsModest, IsModestBlock, IsModestBody, IsModestCase, IsModestElse, IsModestExpression, IsModestHeader, IsModestIf, body_tokens, item_tokens, tokens}
 use Rattle.sve_body.proofs.AtMost.{CostsAtMost, at_most_asked, at_most_each, at_most_either, at_most_last, at_most_more, at_most_none, at_most_spent, at_most_then, not_over}
 use Rattle.sve_body.proofs.Tokens.{has_token, tokens_of_list, tokens_of_pair, tokens_of_turn}
@@ -81,9 +80,9 @@ module _ {S : Type 0} (steps : Steps S) where
   within_costs n (Some fault) contents s inside = given_costs n (steps.leave (steps.say fault s))
   within_costs n None contents s inside = at_most_last n (contents s) (λ t. Give (steps.leave t)) (inside s) (λ t. given_costs 0 (steps.leave t))
 
-  block_costs : (n number : ℕ) (place : Option (ℕ × ℤ)) (label : Option Label) (token : ℕ) (contents : S → Plan Reply S) (s : S) → ((t : S) → CostsAtMost n (contents t)) → CostsAtMost n (block_of steps number place label token contents s)
-  block_costs n number place label token contents s inside =
-      at_most_either n (label_is_wrong steps number label s) (Give s) _ (given_costs n s) (within_costs n (nesting_fault (steps.depth s) token) contents (steps.enter number place label token s) inside)
+  block_costs : (n number : ℕ) (place : Option (ℕ × ℤ)) (b : GenerateBlock) (contents : S → Plan Reply S) (s : S) → ((t : S) → CostsAtMost n (contents t)) → CostsAtMost n (block_of steps number place b contents s)
+  block_costs n number place b contents s inside =
+      at_most_either n (label_is_wrong steps number (block_label b) s) (Give s) _ (given_costs n s) (within_costs n (nesting_fault (steps.depth s) (block_token b)) contents (steps.enter number place b s) inside)
 
   -- ---- what costs so much and no more
 
@@ -180,13 +179,13 @@ module _ {S : Type 0} (steps : Steps S) where
         (at_most_then (4 * item_tokens i) (4 * tokens (item_row rest)) (Spend 1 (item steps None i s)) (λ t. items_in steps rest t) (costs_item None i s modest.0) (λ t. costs_items rest t modest.1))
 
     costs_block : (nests : Bool) (number : ℕ) (place : Option (ℕ × ℤ)) (b : GenerateBlock) (s : S) → IsModestBlock steps b → CostsAtMost (4 * tokens (generate_block_tree b)) (block_in steps nests number place b s)
-    costs_block nests number place (is_generate_block.Block' _ begin label _ items end last) s modest =
+    costs_block nests number place (is_generate_block.Block' at begin label n items end last) s modest =
         let e = tokens_of_pair (optional_tree label_tree label) (pair (item_row items) (pair (leaf end) (optional_tree label_tree last))) in let f = tokens_of_pair (item_row items) (pair (leaf end) (optional_tree label_tree last)) in
-        block_costs (4 * tokens (pair (leaf begin) (pair (optional_tree label_tree label) (pair (item_row items) (pair (leaf end) (optional_tree label_tree last)))))) number place label begin (λ t. items_in steps items t) s
+        block_costs (4 * tokens (pair (leaf begin) (pair (optional_tree label_tree label) (pair (item_row items) (pair (leaf end) (optional_tree label_tree last)))))) number place (is_generate_block.Block' at begin label n items end last) (λ t. items_in steps items t) s
         (λ t. at_most_more (4 * tokens (item_row items)) (4 * tokens (pair (leaf begin) (pair (optional_tree label_tree label) (pair (item_row items) (pair (leaf end) (optional_tree label_tree last)))))) (items_in steps items t) (omega arith) (costs_items items t modest))
-    costs_block nests number place (is_generate_block.Item' _ i) s modest =
-        at_most_either (4 * item_tokens i) (is_part nests i) (Spend 1 (item steps (Some number) i s)) (block_of steps number place None (token_or (first_token_of (item_tree i))) (λ t. Spend 1 (item steps None i t)) s)
-        (costs_item (Some number) i s modest) (block_costs (4 * item_tokens i) number place None (token_or (first_token_of (item_tree i))) (λ t. Spend 1 (item steps None i t)) s (λ t. costs_item None i t modest))
+    costs_block nests number place (is_generate_block.Item' at i) s modest =
+        at_most_either (4 * item_tokens i) (is_part nests i) (Spend 1 (item steps (Some number) i s)) (block_of steps number place (is_generate_block.Item' at i) (λ t. Spend 1 (item steps None i t)) s)
+        (costs_item (Some number) i s modest) (block_costs (4 * item_tokens i) number place (is_generate_block.Item' at i) (λ t. Spend 1 (item steps None i t)) s (λ t. costs_item None i t modest))
 
     costs_if : (number : ℕ) (c : IfGenerate) (s : S) → IsModestIf steps c → (m : ℕ) × (1 + m ≤ 4 * tokens (if_generate_tree c)) × CostsAtMost m (if_in steps number c s)
     costs_if number (IfGenerate' keyword condition first otherwise) s modest = costs_branches number keyword condition first otherwise s modest.0 (λ t. costs_block true number None first t modest.1) (λ t. costs_else number otherwise t modest.2)

@@ -18,9 +18,7 @@ use Rattle.sve_tree.specs.declared.item.GenerateBlock.TheVariants as is_generate
 use Rattle.sve_tree.specs.declared.item.CaseGenerateItem.TheVariants as is_case_generate_item
 use Rattle.sve_env.specs.Nodes.{nodes}
 use Rattle.sve_measure.specs.Constants.{measured}
-use Rattle.sve_generate.specs.Constructs.{is_conditional, nesting_fault, token_or}
-use Rattle.sve_tree.specs.Items.{item_tree}
-use Rattle.sve_tree.specs.Shape.{first_token_of}
+use Rattle.sve_generate.specs.Constructs.{block_token, is_conditional, nesting_fault}
 use Rattle.sve_choice.specs.Conditions.{faults_in, holds}
 use Rattle.sve_choice.specs.Labels.{case_nodes, chosen}
 use Rattle.sve_item_names.specs.declared.name.ItemName.{ItemName}
@@ -50,10 +48,15 @@ label_fault_of steps number s name = []
 
 -- A construct begins: it is counted and its labels are judged, unless it is a part of the one around it.
 abbrev pub begun : {S : Type 0} → Steps S → Option ℕ → List ItemName → S → S
-begun steps None names s = say_all steps (flat_map (label_fault_of steps (steps.next_number s) s) names) (steps.count_construct s)
+begun steps None names s = say_all steps (flat_map (label_fault_of steps (steps.next_number s) s) names) (steps.count_construct names s)
 begun steps (Some number) names s = s
 
 -- ---- blocks
+
+-- the label of a block behind its `begin`; a block of one item has none
+abbrev pub block_label : GenerateBlock → Option Label
+block_label (is_generate_block.Block' _ begin label _ items end last) = label
+block_label (is_generate_block.Item' _ i) = None
 
 -- a block whose label is declared otherwise is not made
 abbrev pub label_is_wrong : {S : Type 0} → Steps S → ℕ → Option Label → S → Bool
@@ -66,9 +69,9 @@ block_within steps (Some fault) contents s = Give (steps.leave (steps.say fault 
 block_within steps None contents s = and_then (contents s) (λ t. Give (steps.leave t))
 
 -- a block is entered, and left behind its contents
-abbrev pub block_of : {S : Type 0} → Steps S → ℕ → Option (ℕ × ℤ) → Option Label → ℕ → (S → Plan Reply S) → S → Plan Reply S
-block_of steps number turn label token contents s =
-    if label_is_wrong steps number label s then Give s else block_within steps (nesting_fault (steps.depth s) token) contents (steps.enter number turn label token s)
+abbrev pub block_of : {S : Type 0} → Steps S → ℕ → Option (ℕ × ℤ) → GenerateBlock → (S → Plan Reply S) → S → Plan Reply S
+block_of steps number turn block contents s =
+    if label_is_wrong steps number (block_label block) s then Give s else block_within steps (nesting_fault (steps.depth s) (block_token block)) contents (steps.enter number turn block s)
 
 -- a loop with a fault has no scope
 abbrev pub turns_of : {S : Type 0} → Steps S → (ℤ → S → Plan Reply S) → Result (List ℤ) Fault → S → Plan Reply S
@@ -120,9 +123,9 @@ unfoldable mutual
 
   -- a block of a construct with this number; of a conditional it may be another conditional
   pub block_in : {S : Type 0} → Steps S → Bool → ℕ → Option (ℕ × ℤ) → GenerateBlock → S → Plan Reply S
-  block_in steps nests number turn (is_generate_block.Block' _ begin label _ items end last) s = block_of steps number turn label begin (λ t. items_in steps items t) s
-  block_in steps nests number turn (is_generate_block.Item' _ i) s =
-      if is_part nests i then Spend 1 (item steps (Some number) i s) else block_of steps number turn None (token_or (first_token_of (item_tree i))) (λ t. Spend 1 (item steps None i t)) s
+  block_in steps nests number turn (is_generate_block.Block' at begin label n items end last) s = block_of steps number turn (is_generate_block.Block' at begin label n items end last) (λ t. items_in steps items t) s
+  block_in steps nests number turn (is_generate_block.Item' at i) s =
+      if is_part nests i then Spend 1 (item steps (Some number) i s) else block_of steps number turn (is_generate_block.Item' at i) (λ t. Spend 1 (item steps None i t)) s
 
   -- an unknown condition counts as false
   pub if_in : {S : Type 0} → Steps S → ℕ → IfGenerate → S → Plan Reply S

@@ -1,5 +1,5 @@
 -- Items of a body that hold no other items, as plans (IEEE 1800-2017, 6.10, 9.2, 10.3, 20.11, 23.3 and 25.5). What counts is own.
-use Rattle.std.specs.Prelude.{ℕ, ◌+◌, Bool, true, if◌then◌else◌, codes, bytes_eq, List, [], ◌∷◌, ◌++◌, length, Option, Some, None}
+use Rattle.std.specs.Prelude.{ℕ, Bool, true, if◌then◌else◌, codes, bytes_eq, List, [], ◌∷◌, ◌++◌, length, sum_by, Option, Some, None}
 use Rattle.std.specs.List.{flat_map, fold}
 use Rattle.std.specs.Option.{is_none}
 use Rattle.sve_diag.specs.declared.code.Code.TheVariants.{E17}
@@ -18,7 +18,7 @@ use Rattle.sve_spec.specs.Specialization.{Specialization}
 use Rattle.sve_use.specs.Use.{Called, Dotted, Named, Use}
 use Rattle.sve_use.specs.Uses.{uses}
 use Rattle.sve_use.specs.LeftSides.{left_side_uses}
-use Rattle.sve_statement_use.specs.Steps.{Does, Step, Uses}
+use Rattle.sve_statement_use.specs.Steps.{Does, Step, Uses, happens}
 use Rattle.sve_simple_use.specs.Simple.{event_uses}
 use Rattle.sve_statement_use.specs.Statements.{statement_steps}
 use Rattle.sve_item_names.specs.Declarations.{parameters_of, ports_of}
@@ -64,18 +64,14 @@ assignment steps a s = and_then (each (implied steps) (flat_map plain_tokens (le
 
 -- ---- procedures (9.2)
 
--- the same for each step in order, and what it costs together
-unfoldable pub counted_each : {I S : Type 0} → (I → S → Counted S) → List I → S → Counted S
-counted_each f [] s = (0, s)
-counted_each f (item ∷ items) s = ((f item s).0 + (counted_each f items (f item s).1).0, (counted_each f items (f item s).1).1)
+-- what evaluating in a step of statements costs: a use evaluates nothing
+abbrev pub step_nodes : {S : Type 0} → Steps S → S → Step → ℕ
+step_nodes steps s (Uses name) = 0
+step_nodes steps s (Does local) = steps.local_nodes local s
 
--- a name is used, or something is done to the scopes of statements
-abbrev pub local_step : {S : Type 0} → Steps S → Step → S → Counted S
-local_step steps (Uses name) s = (0, steps.use_name name s)
-local_step steps (Does local) s = steps.local local s
-
+-- A statement costs what its steps cost, over what is known where it begins. Then names are used, and scopes open and close, step by step.
 abbrev pub statement : {S : Type 0} → Steps S → Stmt → S → Counted S
-statement steps stmt s = counted_each (local_step steps) (statement_steps stmt) s
+statement steps stmt s = (sum_by (step_nodes steps s) (statement_steps stmt), fold (happens (λ t name. steps.use_name name t) (λ t local. steps.local local t)) s (statement_steps stmt))
 
 abbrev pub events : {S : Type 0} → Steps S → EventControl → S → S
 events steps control s = use_all steps (event_uses control) s

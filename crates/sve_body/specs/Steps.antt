@@ -2,7 +2,6 @@
 use Rattle.std.specs.Prelude.{ℕ, Bool, ℤ, List, Option}
 use Rattle.sve_bytes.specs.declared.net_type.NetType.{NetType}
 use Rattle.sve_fault.specs.declared.fault.Fault.{Fault}
-use Rattle.sve_tree.specs.declared.word.Label.{Label}
 use Rattle.sve_tree.specs.declared.declaration.DataDeclaration.{DataDeclaration}
 use Rattle.sve_tree.specs.declared.declaration.Import.{Import}
 use Rattle.sve_tree.specs.declared.declaration.Modport.{Modport}
@@ -13,12 +12,14 @@ use Rattle.sve_tree.specs.declared.declaration.VariableDeclaration.{VariableDecl
 use Rattle.sve_tree.specs.declared.element.Element.{Element}
 use Rattle.sve_tree.specs.declared.header.Header.{Header}
 use Rattle.sve_tree.specs.declared.statement.Func.{Func}
+use Rattle.sve_tree.specs.declared.item.GenerateBlock.{GenerateBlock}
 use Rattle.sve_tree.specs.declared.item.Instance.{Instance}
 use Rattle.sve_tree.specs.declared.item.Overrides.{Overrides}
 use Rattle.sve_index.specs.declared.whole.Index.{Index}
 use Rattle.sve_spec.specs.Specialization.{Specialization}
 use Rattle.sve_facts.specs.declared.facts.Port.{Port}
 use Rattle.sve_env.specs.Told.{Told}
+use Rattle.sve_item_names.specs.declared.name.ItemName.{ItemName}
 use Rattle.sve_use.specs.Use.{Use}
 use Rattle.sve_statement_use.specs.Steps.{Local}
 use Rattle.sve_plan.specs.Plan.{Counted}
@@ -47,19 +48,20 @@ pub record Steps (S : Type 0) : Type 0 where
   pub variables : VariableDeclaration → S → Counted S
   pub data_of_type : DataDeclaration → S → Counted S
   pub modport : Modport → S → S
-  -- the scopes of statements, and what is declared there
-  pub local : Local → S → Counted S
+  -- the scopes of statements, and what is declared there; what evaluating in such a step costs, over what is known
+  pub local : Local → S → S
+  pub local_nodes : Local → S → ℕ
   -- what is wrong with the genvar of a loop (27.4)
   pub genvar_fault : Option ℕ → ℕ → S → Option Fault
-  -- the number of the next generate construct of the innermost scope, of which the first has number 1; and one more construct
+  -- the number of the next generate construct of the innermost scope, of which the first has number 1; and one more construct, with the names of its labels
   pub next_number : S → ℕ
-  pub count_construct : S → S
+  pub count_construct : List ItemName → S → S
   -- the generate blocks that are open
   pub depth : S → ℕ
   -- what is wrong with a label of the construct with this number: its name is declared by something else (27.6)
   pub label_fault : ℕ → ℕ → S → Option Fault
-  -- a block is entered, by the number of its construct, its genvar with its value, its label and its first token; and it ends
-  pub enter : ℕ → Option (ℕ × ℤ) → Option Label → ℕ → S → S
+  -- a block is entered, by the number of its construct, its genvar with its value, and its text; and it ends
+  pub enter : ℕ → Option (ℕ × ℤ) → GenerateBlock → S → S
   pub leave : S → S
   -- an instantiation: its overrides are evaluated, once for all its instances (23.10); where its definition is (23.3)
   pub overrides : Option Overrides → S → Counted S

@@ -12,9 +12,10 @@ use sve_env::Env;
 use sve_facts::Port;
 use sve_fault::{Fault, Fuel, Halted};
 use sve_index::Index;
+use sve_item_names::ItemName;
 use sve_spec::Spec;
 use sve_tree::{
-    DataDeclaration, Element, EventControl, Func, Header, Import, Instance, Label, Modport,
+    DataDeclaration, Element, EventControl, Func, GenerateBlock, Header, Import, Instance, Modport,
     NetAssignment, NetDeclaration, Overrides, Parameters, Stmt, Typedef, VariableDeclaration,
 };
 
@@ -167,7 +168,8 @@ pub trait Work {
     fn modport(&mut self, modport: &Modport) -> Result<(), NoMemory>
         ensures { OnOk result (self.new ≡ steps.modport modport.now self.old) };
 
-    /// The statement of a procedure, with the scopes of its blocks and loops (9.2).
+    /// The statement of a procedure, with the scopes of its blocks and loops (9.2). What it evaluates is counted over what is known where
+    /// it begins.
     ///
     /// # Errors
     /// `Over` where what it evaluates passes the most that may be spent, and `NoMemory`.
@@ -193,12 +195,12 @@ pub trait Work {
     fn next_number(&self) -> u64
         ensures { result ≡ steps.next_number self.now };
 
-    /// One more construct.
+    /// One more construct, by the names of its labels (27.6).
     ///
     /// # Errors
     /// For want of memory alone.
-    fn count_construct(&mut self) -> Result<(), NoMemory>
-        ensures { OnOk result (self.new ≡ steps.count_construct self.old) };
+    fn count_construct(&mut self, names: &[ItemName]) -> Result<(), NoMemory>
+        ensures { OnOk result (self.new ≡ steps.count_construct names.now self.old) };
 
     /// How many generate blocks are open.
     fn depth(&self) -> usize
@@ -211,7 +213,8 @@ pub trait Work {
     fn label_fault(&self, number: u64, label: u32) -> Result<Option<Fault>, NoMemory>
         ensures { IfOk result (λ fault. fault ≡ steps.label_fault number label self.now) };
 
-    /// A generate block is entered, by the number of its construct, its genvar with its value, its label and its first token (27.6).
+    /// A generate block is entered, by the number of its construct, its genvar with its value, and its text, of which its label, its first
+    /// token and its items are read off (27.6).
     ///
     /// # Errors
     /// For want of memory alone.
@@ -219,10 +222,9 @@ pub trait Work {
         &mut self,
         number: u64,
         turn: Option<(u32, i32)>,
-        label: &Option<Label>,
-        token: u32,
+        block: &GenerateBlock,
     ) -> Result<(), NoMemory>
-        ensures { OnOk result (self.new ≡ steps.enter number turn label.now token self.old) };
+        ensures { OnOk result (self.new ≡ steps.enter number turn block.now self.old) };
 
     /// The innermost generate block ends.
     ///

@@ -2,8 +2,6 @@
 use Rattle.std.specs.Global.{Box, Vec}
 use Rattle.std.proofs.Common.{ℕ, zero, suc, Bool, true, false, cond, ℤ, List, Option, Some, None, ◌≡◌, refl, ap, sym, ◌∙◌}
 use Rattle.std.proofs.Math.Path.{fun_ext}
-use Rattle.sve_tree.specs.Items.{item_tree}
-use Rattle.sve_tree.specs.Shape.{first_token_of}
 use Rattle.sve_tree.specs.declared.row.Row.{Row}
 use Rattle.sve_tree.specs.declared.expression.Expr.{Expr}
 use Rattle.sve_tree.specs.declared.item.ContinuousAssign.{ContinuousAssign}
@@ -23,14 +21,14 @@ use Rattle.sve_tree.specs.declared.item.Item.TheVariants as is_item
 use Rattle.sve_tree.specs.declared.item.GenerateBlock.TheVariants as is_generate_block
 use Rattle.sve_tree.specs.declared.item.CaseGenerateItem.TheVariants as is_case_generate_item
 use denote.Hole.Carrier.{out}
-use Rattle.sve_generate.specs.Constructs.{token_or}
 use Rattle.sve_plan.specs.Plan.{Give, Plan, Spend, and_then, each, paid}
 use Rattle.sve_look.specs.Questions.{Reply}
 use Rattle.sve_item_names.specs.Items.{item_names}
 use Rattle.sve_body.specs.Steps.{Steps}
 use Rattle.sve_body.specs.Items.{assignment, instances}
-use Rattle.sve_body.specs.Body.{begun, block_in, block_of, case_item_at, case_item_in, counted_item, if_in, is_part, item, items_in, number_in}
-use Rattle.sve_body_block.specs.Parts.{bare_block, begun_block, case_of_construct, found_condition, found_item, item_at, loop_of_construct}
+use Rattle.sve_body.specs.Body.{begun, block_in, case_item_at, case_item_in, counted_item, if_in, is_part, item, items_in, number_in}
+use Rattle.sve_body_construct.specs.Parts.{found_condition, found_item}
+use Rattle.sve_body_block.specs.Parts.{case_of_construct, contents_of, item_at, loop_of_construct, scoped_block}
 
 module _ {S : Type 0} (steps : Steps S) where
   -- ---- rows
@@ -109,17 +107,21 @@ module _ {S : Type 0} (steps : Steps S) where
 
   -- ---- blocks
 
-  pub of_body : (nests : Bool) (number : ℕ) (turn : Option (ℕ × ℤ)) (body : Box GenerateBody) (s : S) → block_in steps nests number turn (is_generate_block.Block body) s ≡ begun_block steps number turn body.value s
+  pub of_body : (nests : Bool) (number : ℕ) (turn : Option (ℕ × ℤ)) (body : Box GenerateBody) (s : S) → block_in steps nests number turn (is_generate_block.Block body) s ≡ scoped_block steps number turn (is_generate_block.Block body) s
   unfolding item
-  of_body nests number turn body s = ap (λ (contents : S → Plan Reply S). block_of steps number turn body.value.label body.value.begin contents s) (fun_ext (λ t. items_of body.value.items t))
+  of_body nests number turn body s = refl
+
+  -- a block of one item, by whether that is a part of the construct around it
+  abbrev by_part : Bool → ℕ → Option (ℕ × ℤ) → Box Item → S → Plan Reply S
+  by_part part number turn i s = cond part (Spend 1 (item steps (Some number) i.value s)) (scoped_block steps number turn (is_generate_block.Item i) s)
 
   pub of_part : (nests : Bool) (number : ℕ) (turn : Option (ℕ × ℤ)) (i : Box Item) (s : S) (part : Bool) → part ≡ is_part nests i.value → part ≡ true → block_in steps nests number turn (is_generate_block.Item i) s ≡ Spend 1 (item steps (Some number) i.value s)
   unfolding item
-  of_part nests number turn i s part is so = ap (λ b. cond b (Spend 1 (item steps (Some number) i.value s)) (bare_block steps number turn i.value s)) (sym is ∙ so)
+  of_part nests number turn i s part is so = ap (λ b. by_part b number turn i s) (sym is ∙ so)
 
-  pub of_bare : (nests : Bool) (number : ℕ) (turn : Option (ℕ × ℤ)) (i : Box Item) (s : S) (part : Bool) → part ≡ is_part nests i.value → part ≡ false → block_in steps nests number turn (is_generate_block.Item i) s ≡ bare_block steps number turn i.value s
+  pub of_bare : (nests : Bool) (number : ℕ) (turn : Option (ℕ × ℤ)) (i : Box Item) (s : S) (part : Bool) → part ≡ is_part nests i.value → part ≡ false → block_in steps nests number turn (is_generate_block.Item i) s ≡ scoped_block steps number turn (is_generate_block.Item i) s
   unfolding item
-  of_bare nests number turn i s part is so = ap (λ b. cond b (Spend 1 (item steps (Some number) i.value s)) (bare_block steps number turn i.value s)) (sym is ∙ so)
+  of_bare nests number turn i s part is so = ap (λ b. by_part b number turn i s) (sym is ∙ so)
 
   -- ---- an item by its variant, with what was found on the way
 
@@ -162,19 +164,25 @@ module _ {S : Type 0} (steps : Steps S) where
 
   -- ---- a block by its variant
 
-  pub body_is : (nests : Bool) (number : ℕ) (turn : Option (ℕ × ℤ)) (b : GenerateBlock) (body : Box GenerateBody) (held : GenerateBody) (s : S) → b ≡ is_generate_block.Block body → held ≡ body.value → block_in steps nests number turn b s ≡ begun_block steps number turn held s
-  body_is nests number turn b body held s is inside = ap (λ (x : GenerateBlock). block_in steps nests number turn x s) is ∙ of_body nests number turn body s ∙ ap (λ (x : GenerateBody). begun_block steps number turn x s) (sym inside)
+  pub body_is : (nests : Bool) (number : ℕ) (turn : Option (ℕ × ℤ)) (b : GenerateBlock) (body : Box GenerateBody) (s : S) → b ≡ is_generate_block.Block body → block_in steps nests number turn b s ≡ scoped_block steps number turn b s
+  body_is nests number turn b body s is = ap (λ (x : GenerateBlock). block_in steps nests number turn x s) is ∙ of_body nests number turn body s ∙ ap (λ (x : GenerateBlock). scoped_block steps number turn x s) (sym is)
 
   pub part_is : (nests : Bool) (number : ℕ) (turn : Option (ℕ × ℤ)) (b : GenerateBlock) (i : Box Item) (held : Item) (s : S) (part : Bool) → b ≡ is_generate_block.Item i → held ≡ i.value → part ≡ is_part nests held → part ≡ true → block_in steps nests number turn b s ≡ Spend 1 (item steps (Some number) held s)
   part_is nests number turn b i held s part is inside judged so =
       ap (λ (x : GenerateBlock). block_in steps nests number turn x s) is ∙ of_part nests number turn i s part (judged ∙ ap (is_part nests) inside) so ∙ ap (λ (x : Item). Spend 1 (item steps (Some number) x s)) (sym inside)
 
-  pub bare_is : (nests : Bool) (number : ℕ) (turn : Option (ℕ × ℤ)) (b : GenerateBlock) (i : Box Item) (held : Item) (s : S) (part : Bool) → b ≡ is_generate_block.Item i → held ≡ i.value → part ≡ is_part nests held → part ≡ false → block_in steps nests number turn b s ≡ bare_block steps number turn held s
+  pub bare_is : (nests : Bool) (number : ℕ) (turn : Option (ℕ × ℤ)) (b : GenerateBlock) (i : Box Item) (held : Item) (s : S) (part : Bool) → b ≡ is_generate_block.Item i → held ≡ i.value → part ≡ is_part nests held → part ≡ false → block_in steps nests number turn b s ≡ scoped_block steps number turn b s
   bare_is nests number turn b i held s part is inside judged so =
-      ap (λ (x : GenerateBlock). block_in steps nests number turn x s) is ∙ of_bare nests number turn i s part (judged ∙ ap (is_part nests) inside) so ∙ ap (λ (x : Item). bare_block steps number turn x s) (sym inside)
+      ap (λ (x : GenerateBlock). block_in steps nests number turn x s) is ∙ of_bare nests number turn i s part (judged ∙ ap (is_part nests) inside) so ∙ ap (λ (x : GenerateBlock). scoped_block steps number turn x s) (sym is)
 
-  pub bare_token : (number : ℕ) (turn : Option (ℕ × ℤ)) (i : Item) (s : S) (token : ℕ) → first_token_of (item_tree i) ≡ Some token → bare_block steps number turn i s ≡ block_of steps number turn None token (λ u. Spend 1 (item steps None i u)) s
-  bare_token number turn i s token is = ap (λ (first : Option ℕ). block_of steps number turn None (token_or first) (λ u. Spend 1 (item steps None i u)) s) is
+  -- ---- what stands in a block, by its variant
+
+  pub items_within : (b : GenerateBlock) (body : Box GenerateBody) (held : GenerateBody) (s : S) (lent : List Item) → b ≡ is_generate_block.Block body → held ≡ body.value → lent ≡ held.items.items → contents_of steps b s ≡ each (counted_item steps) lent s
+  items_within b body held s lent is inside same =
+      ap (λ (x : GenerateBlock). contents_of steps x s) is ∙ items_of body.value.items s ∙ ap (λ (x : GenerateBody). each (counted_item steps) x.items.items s) (sym inside) ∙ ap (λ (l : List Item). each (counted_item steps) l s) (sym same)
+
+  pub item_within : (b : GenerateBlock) (i : Box Item) (held : Item) (s : S) → b ≡ is_generate_block.Item i → held ≡ i.value → contents_of steps b s ≡ Spend 1 (item steps None held s)
+  item_within b i held s is inside = ap (λ (x : GenerateBlock). contents_of steps x s) is ∙ ap (λ (x : Item). Spend 1 (item steps None x s)) (sym inside)
 
   -- ---- constructs by what is lent of them
 

@@ -2,32 +2,19 @@
 use Rattle.std.proofs.Common.{◌≡◌, ◌<◌, ◌≤◌, ℕ, zero, suc, ◌+◌, ℤ, Bool, true, false, cond, List, [], ◌∷◌, length, drop, get_or, Option, Some, None, is_some, Result, Ok, Err, refl, ap, sym, ◌∙◌, arith}
 use Rattle.std.proofs.lemmas.List.{drop_more}
 use Rattle.std.proofs.Math.ListN.{drop_of_length-le}
-use Rattle.std.specs.List.{flat_map}
 use Rattle.sve_fault.specs.declared.fault.Fault.{Fault}
-use Rattle.sve_rule.specs.Judged.{Judged}
 use Rattle.sve_tree.specs.declared.item.CaseGenerateItem.{CaseGenerateItem}
 use Rattle.sve_tree.specs.declared.item.Item.{Item}
+use Rattle.sve_tree.specs.declared.item.GenerateBlock.{GenerateBlock}
 use Rattle.sve_tree.specs.declared.item.LoopGenerate.{LoopGenerate}
-use Rattle.sve_tree.specs.declared.word.Label.{Label}
-use Rattle.sve_tree.specs.declared.expression.Expr.{Expr}
-use Rattle.sve_env.specs.Told.{Told}
-use Rattle.sve_item_names.specs.declared.name.ItemName.{ItemName}
-use Rattle.sve_generate.specs.Constructs.{nesting_fault}
-use Rattle.sve_generate.specs.Loops.{repeated, unrolled}
-use Rattle.sve_genvar.specs.Genvar.{with_genvar}
-use Rattle.sve_genvar.specs.Steps.{after_step, continued, started}
-use Rattle.sve_choice.specs.Conditions.{fault_in, faults_in}
-use Rattle.sve_plan.specs.Plan.{Counted, Give, Plan, Spend, and_then, each}
+use Rattle.sve_generate.specs.Constructs.{block_token, nesting_fault}
+use Rattle.sve_plan.specs.Plan.{Give, Plan, Spend, and_then, each}
 use Rattle.sve_look.specs.Questions.{Reply}
 use Rattle.sve_body.specs.Steps.{Steps}
 use Rattle.sve_body.specs.Items.{say_all}
-use Rattle.sve_body.specs.Body.{begun, block_of, block_within, case_item_in, counted_item, fault_list, item, label_fault_of, label_is_wrong, loop_of, turns_of}
-use Rattle.sve_body_block.specs.Parts.{found_values, genvar_fault_of, item_at, loop_of_construct, opened, or_said, turn_of, turns_found, values_of, within_block}
-
--- the fault of a condition, where it has one
-pub same_faults : (judged : Judged) → fault_list (fault_in judged) ≡ faults_in judged
-same_faults (Ok a) = refl
-same_faults (Err fault) = refl
+use Rattle.sve_body.specs.Body.{block_label, block_of, block_within, case_item_in, counted_item, fault_list, item, label_is_wrong, loop_of, turns_of}
+use Rattle.sve_body_construct.specs.Parts.{found_values, genvar_fault_of, opened, or_said, values_of, within_block}
+use Rattle.sve_body_block.specs.Parts.{item_at, loop_of_construct, turn_of, turns_found}
 
 -- ---- one after another
 
@@ -116,24 +103,18 @@ module _ {S : Type 0} (steps : Steps S) where
   opened_is true fault contents s entered = refl
   opened_is false fault contents s entered = within_is fault contents entered
 
-  block_opens : (number : ℕ) (turn : Option (ℕ × ℤ)) (label : Option Label) (token : ℕ) (contents : S → Plan Reply S) (s : S) → block_of steps number turn label token contents s ≡ by_opening (opened steps number turn label token s) contents
-  block_opens number turn label token contents s = opened_is (label_is_wrong steps number label s) (nesting_fault (steps.depth s) token) contents s (steps.enter number turn label token s)
+  block_opens : (number : ℕ) (turn : Option (ℕ × ℤ)) (block : GenerateBlock) (contents : S → Plan Reply S) (s : S) → block_of steps number turn block contents s ≡ by_opening (opened steps number turn block s) contents
+  block_opens number turn block contents s = opened_is (label_is_wrong steps number (block_label block) s) (nesting_fault (steps.depth s) (block_token block)) contents s (steps.enter number turn block s)
 
-  pub block_stays : (number : ℕ) (turn : Option (ℕ × ℤ)) (label : Option Label) (token : ℕ) (contents : S → Plan Reply S) (s t : S) (opens : Bool) → opens ≡ (opened steps number turn label token s).0 → opens ≡ false → t ≡ (opened steps number turn label token s).1 → block_of steps number turn label token contents s ≡ Give t
-  block_stays number turn label token contents s t opens is so left =
-      block_opens number turn label token contents s ∙ ap (λ b. cond b (and_then (contents (opened steps number turn label token s).1) (λ u. Give (steps.leave u))) (Give (opened steps number turn label token s).1)) (sym is ∙ so) ∙ ap Give (sym left)
+  pub block_stays : (number : ℕ) (turn : Option (ℕ × ℤ)) (block : GenerateBlock) (contents : S → Plan Reply S) (s t : S) (opens : Bool) → opens ≡ (opened steps number turn block s).0 → opens ≡ false → t ≡ (opened steps number turn block s).1 → block_of steps number turn block contents s ≡ Give t
+  block_stays number turn block contents s t opens is so left =
+      block_opens number turn block contents s ∙ ap (λ b. cond b (and_then (contents (opened steps number turn block s).1) (λ u. Give (steps.leave u))) (Give (opened steps number turn block s).1)) (sym is ∙ so) ∙ ap Give (sym left)
 
-  pub block_goes : (number : ℕ) (turn : Option (ℕ × ℤ)) (label : Option Label) (token : ℕ) (contents : S → Plan Reply S) (s t : S) (opens : Bool) → opens ≡ (opened steps number turn label token s).0 → opens ≡ true → t ≡ (opened steps number turn label token s).1
-      → block_of steps number turn label token contents s ≡ and_then (contents t) (λ u. Give (steps.leave u))
-  block_goes number turn label token contents s t opens is so left =
-      block_opens number turn label token contents s ∙ ap (λ b. cond b (and_then (contents (opened steps number turn label token s).1) (λ u. Give (steps.leave u))) (Give (opened steps number turn label token s).1)) (sym is ∙ so)
+  pub block_goes : (number : ℕ) (turn : Option (ℕ × ℤ)) (block : GenerateBlock) (contents : S → Plan Reply S) (s t : S) (opens : Bool) → opens ≡ (opened steps number turn block s).0 → opens ≡ true → t ≡ (opened steps number turn block s).1
+      → block_of steps number turn block contents s ≡ and_then (contents t) (λ u. Give (steps.leave u))
+  block_goes number turn block contents s t opens is so left =
+      block_opens number turn block contents s ∙ ap (λ b. cond b (and_then (contents (opened steps number turn block s).1) (λ u. Give (steps.leave u))) (Give (opened steps number turn block s).1)) (sym is ∙ so)
       ∙ ap (λ (u : S). and_then (contents u) (λ v. Give (steps.leave v))) (sym left)
-
-  -- the plan of one item in a block of its own
-  pub bare_goes : (number : ℕ) (turn : Option (ℕ × ℤ)) (token : ℕ) (i : Item) (s t : S) (opens : Bool) → opens ≡ (opened steps number turn None token s).0 → opens ≡ true → t ≡ (opened steps number turn None token s).1
-      → block_of steps number turn None token (λ u. Spend 1 (item steps None i u)) s ≡ Spend 1 (and_then (item steps None i t) (λ u. Give (steps.leave u)))
-  unfolding and_then
-  bare_goes number turn token i s t opens is so left = block_goes number turn None token (λ u. Spend 1 (item steps None i u)) s t opens is so left
 
   -- ---- what follows a selection
 
@@ -146,21 +127,3 @@ module _ {S : Type 0} (steps : Steps S) where
   pub selects_there : (number : ℕ) (items : List CaseGenerateItem) (found : Option ℕ × S) (s : S) (selected : Option ℕ) (k : ℕ) (x : CaseGenerateItem) → (selected, s) ≡ found → selected ≡ Some k → k < length items → x ≡ get_or items k x
       → item_at steps number found.0 items found.1 ≡ case_item_in steps number x s
   selects_there number items found s selected k x so is lt at = rw (← so, is) (item_there number items k x s lt at)
-
-  -- ---- a construct that begins
-
-  pub begun_is : (outer : Option ℕ) (names : List ItemName) (s t : S) (number : ℕ) (faults : List Fault) → outer ≡ None → number ≡ steps.next_number s → faults ≡ flat_map (label_fault_of steps number s) names → t ≡ steps.count_construct s → say_all steps faults t ≡ begun steps outer names s
-  begun_is outer names s t number faults alone n f c =
-      ap (λ (fs : List Fault). say_all steps fs t) (f ∙ ap (λ k. flat_map (label_fault_of steps k s) names) n) ∙ ap (λ (u : S). say_all steps (flat_map (label_fault_of steps (steps.next_number s) s) names) u) c
-      ∙ ap (λ (o : Option ℕ). begun steps o names s) (sym alone)
-
-  -- ---- the values of a loop, by what is known where it stands
-
-  abbrev pub values_with : Told → List ℕ → Expr → Expr → LoopGenerate → Counted (Result (List ℤ) Fault)
-  values_with m genvar start condition c =
-      unrolled (started m start) (λ value. continued (with_genvar genvar value m) condition) (λ value. after_step (with_genvar genvar value m) genvar value c.step) (repeated c.keyword genvar)
-
-  pub values_are : (c : LoopGenerate) (s : S) (m : Told) (genvar : List ℕ) (start condition : Expr) → m ≡ steps.told s → genvar ≡ m.text c.name → start ≡ c.start.value → condition ≡ c.condition.value → values_with m genvar start condition c ≡ values_of steps c s
-  values_are c s m genvar start condition known named first test =
-      ap (λ (x : List ℕ). values_with m x start condition c) named ∙ ap (λ (x : Expr). values_with m (m.text c.name) x condition c) first ∙ ap (λ (x : Expr). values_with m (m.text c.name) c.start.value x c) test
-      ∙ ap (λ (k : Told). values_with k (k.text c.name) c.start.value c.condition.value c) known

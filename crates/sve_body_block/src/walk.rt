@@ -4,19 +4,18 @@ ghost use Rattle.sve_plan.specs.Plan.{each};
 ghost use Rattle.sve_plan.specs.Follows.{Follows, leaving};
 ghost use Rattle.sve_body.specs.Items.{done, plain_item};
 ghost use Rattle.sve_body.specs.Body.{block_in, case_item_in, counted_item, if_in, item};
-ghost use Rattle.sve_body_block.specs.Parts.{bare_block, begun_block, case_of_construct, loop_of_construct, turn_of};
+ghost use Rattle.sve_body_block.specs.Parts.{case_of_construct, contents_of, loop_of_construct, scoped_block, turn_of};
 
-use crate::beginning::begin;
-use crate::choosing::{found_condition, found_item, found_values, genvar_is_wrong};
-use crate::opening::{is_part, opens};
 use std::alloc::Global;
 use sve_body::Work;
-use sve_body_item::{assignments, instances, plain_item};
+use sve_body_construct::{
+    begin, found_condition, found_item, found_values, genvar_is_wrong, is_part, opens,
+};
+use sve_body_instance::instances;
+use sve_body_item::{assignments, plain_item};
 use sve_look::Look;
 use sve_plan::{Fuel, Halted, Stop, spend_many};
-use sve_tree::{
-    CaseGenerate, CaseGenerateItem, GenerateBlock, GenerateBody, IfGenerate, Item, LoopGenerate,
-};
+use sve_tree::{CaseGenerate, CaseGenerateItem, GenerateBlock, IfGenerate, Item, LoopGenerate};
 
 /// An item costs one, each time that it is elaborated (own).
 fn pay_item(fuel: &mut Fuel) -> Result<(), Halted>
@@ -269,59 +268,56 @@ fn block<S: Work, W: Look>(
     ensures { Follows (record { tells = W.tells; keeps = W.keeps; halted = W.halted; stops = W.stops; asked = W.asked }) world.old world.new fuel.old fuel.new (block_in S.steps nests number turn one.now work.old) (leaving result work.new) }
 {
     match one {
-        GenerateBlock::Block { block: body } => begun(alloc, work, number, turn, body, world, fuel),
+        GenerateBlock::Block { .. } => scoped(alloc, work, number, turn, one, world, fuel),
         GenerateBlock::Item { item: part } => {
             if is_part(nests, part) {
                 pay_item(fuel)?;
                 return item(alloc, work, Some(number), part, world, fuel);
             }
-            bare(alloc, work, number, turn, part, world, fuel)
+            scoped(alloc, work, number, turn, one, world, fuel)
         }
     }
 }
 
-/// A block from `begin` to `end`, in a scope of its own.
+/// A block in a scope of its own (27.3).
 #[cycle(items)]
-fn begun<S: Work, W: Look>(
+fn scoped<S: Work, W: Look>(
     alloc: Global,
     work: &mut S,
     number: u64,
     turn: Option<(u32, i32)>,
-    body: &GenerateBody,
+    one: &GenerateBlock,
     world: &mut W,
     fuel: &mut Fuel,
 ) -> Result<(), Stop>
     requires { IsFuel fuel.old }
-    ensures { Follows (record { tells = W.tells; keeps = W.keeps; halted = W.halted; stops = W.stops; asked = W.asked }) world.old world.new fuel.old fuel.new (begun_block S.steps number turn body.now work.old) (leaving result work.new) }
+    ensures { Follows (record { tells = W.tells; keeps = W.keeps; halted = W.halted; stops = W.stops; asked = W.asked }) world.old world.new fuel.old fuel.new (scoped_block S.steps number turn one.now work.old) (leaving result work.new) }
 {
-    if !opens(work, number, turn, &body.label, body.begin)? {
+    if !opens(work, number, turn, one)? {
         return Ok(());
     }
-    items(alloc, work, &body.items, world, fuel)?;
+    contents(alloc, work, one, world, fuel)?;
     work.leave()?;
     Ok(())
 }
 
-/// A block of one item, in a scope of its own.
+/// What stands in a block: items from `begin` to `end`, or one item.
 #[cycle(items)]
-fn bare<S: Work, W: Look>(
+fn contents<S: Work, W: Look>(
     alloc: Global,
     work: &mut S,
-    number: u64,
-    turn: Option<(u32, i32)>,
-    part: &Item,
+    one: &GenerateBlock,
     world: &mut W,
     fuel: &mut Fuel,
 ) -> Result<(), Stop>
     requires { IsFuel fuel.old }
-    ensures { Follows (record { tells = W.tells; keeps = W.keeps; halted = W.halted; stops = W.stops; asked = W.asked }) world.old world.new fuel.old fuel.new (bare_block S.steps number turn part.now work.old) (leaving result work.new) }
+    ensures { Follows (record { tells = W.tells; keeps = W.keeps; halted = W.halted; stops = W.stops; asked = W.asked }) world.old world.new fuel.old fuel.new (contents_of S.steps one.now work.old) (leaving result work.new) }
 {
-    let token = part.first_token();
-    if !opens(work, number, turn, &None, token)? {
-        return Ok(());
+    match one {
+        GenerateBlock::Block { block: body } => items(alloc, work, &body.items, world, fuel),
+        GenerateBlock::Item { item: part } => {
+            pay_item(fuel)?;
+            item(alloc, work, None, part, world, fuel)
+        }
     }
-    pay_item(fuel)?;
-    item(alloc, work, None, part, world, fuel)?;
-    work.leave()?;
-    Ok(())
 }

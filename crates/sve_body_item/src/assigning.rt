@@ -29,8 +29,12 @@ fn implied<S: Work, W: Look>(
     Ok(())
 }
 
-/// Names of which each makes a net where nothing declares it, in order.
-pub(crate) fn implied_all<S: Work, W: Look>(
+/// Names of which each makes a net where nothing declares it, in order: of the net type that is in force there, and none where that is
+/// none (IEEE 1800-2017, 6.10). They spend no fuel.
+///
+/// # Errors
+/// As the object halts through which it reads, or for want of memory.
+pub fn implied_all<S: Work, W: Look>(
     work: &mut S,
     tokens: &[u32],
     world: &mut W,

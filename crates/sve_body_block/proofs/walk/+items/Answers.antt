@@ -8,9 +8,10 @@ use Rattle.sve_plan.proofs.Steps.{begins, ends, goes_on, leaves, leaves_spent, p
 use Rattle.sve_look.specs.Questions.{Reply}
 use Rattle.sve_body.specs.Items.{assignment, done, instances, plain_item}
 use Rattle.sve_body.specs.Body.{block_in, case_item_in, counted_item, if_in, item}
-use Rattle.sve_body_block.specs.Parts.{bare_block, begun_block, case_of_construct, found_condition, found_item, found_values, item_at, loop_of_construct, turn_of, turns_found}
-use Rattle.sve_body_block.proofs.Parts.{bare_goes, block_goes, block_stays, loop_is_right, loop_is_wrong, next_item, next_turn, no_item, no_turn, selects_beyond, selects_none, selects_there, turns_are_none, turns_are_some}
-use Rattle.sve_body_block.proofs.OfItems.{assign_is, bare_is, bare_token, body_is, branch_chosen, branch_none, branch_otherwise, branches_in, cased_is, if_is, instances_is, loop_is, condition_is, of_default, of_labels, part_is, region_is, selection_is}
+use Rattle.sve_body_construct.specs.Parts.{found_condition, found_item, found_values}
+use Rattle.sve_body_block.specs.Parts.{case_of_construct, contents_of, item_at, loop_of_construct, scoped_block, turn_of, turns_found}
+use Rattle.sve_body_block.proofs.Parts.{block_goes, block_stays, loop_is_right, loop_is_wrong, next_item, next_turn, no_item, no_turn, selects_beyond, selects_none, selects_there, turns_are_none, turns_are_some}
+use Rattle.sve_body_block.proofs.OfItems.{assign_is, bare_is, body_is, branch_chosen, branch_none, branch_otherwise, branches_in, cased_is, if_is, instances_is, item_within, items_within, loop_is, condition_is, of_default, of_labels, part_is, region_is, selection_is}
 use Rattle.sve_body_block.proofs.PlainItems.{plain_is}
 use Rattle.sve_body_block.proofs.walk.+items.Goals as goal
 
@@ -206,57 +207,56 @@ case_item-returns-in-Labels g t c =
 pub block-returns-in-Block : goal.block-returns-in-Block
 block-returns-in-Block g t c =
     let s : Sight Reply _ = record { tells = g.W.Look.tells; keeps = g.W.Look.keeps; halted = g.W.Look.halted; stops = g.W.Look.stops; asked = g.W.Look.asked } in
-    let all = begun_block g.S.Work.steps c.args.number c.args.turn c.deref.result.now c.args.work.now in
-    ends s g.met.W.Look.keeps_itself g.met.W.Look.keeps_on c.begun.new.world c.begun.new.fuel all _ (rests s g.met.W.Look.keeps_itself g.met.W.Look.keeps_on all (begins s g.met.W.Look.keeps_itself g.met.W.Look.keeps_on c.args.world.now c.args.fuel.now (block_in g.S.Work.steps c.args.nests c.args.number c.args.turn c.args.one.now c.args.work.now) c.requires) (body_is g.S.Work.steps c.args.nests c.args.number c.args.turn c.args.one.now c.in-Block.body c.deref.result.now c.args.work.now c.in-Block.is c.deref.ensures)) c.begun.ensures
+    let all = scoped_block g.S.Work.steps c.args.number c.args.turn c.args.one.now c.args.work.now in
+    ends s g.met.W.Look.keeps_itself g.met.W.Look.keeps_on c.scoped.new.world c.scoped.new.fuel all _ (rests s g.met.W.Look.keeps_itself g.met.W.Look.keeps_on all (begins s g.met.W.Look.keeps_itself g.met.W.Look.keeps_on c.args.world.now c.args.fuel.now (block_in g.S.Work.steps c.args.nests c.args.number c.args.turn c.args.one.now c.args.work.now) c.requires) (body_is g.S.Work.steps c.args.nests c.args.number c.args.turn c.args.one.now _ c.args.work.now c.in-Block.is)) c.scoped.ensures
 
 pub block-returns-in_err-pay_item-in-Item : goal.block-returns-in_err-pay_item-in-Item
 block-returns-in_err-pay_item-in-Item g t c =
     let s : Sight Reply _ = record { tells = g.W.Look.tells; keeps = g.W.Look.keeps; halted = g.W.Look.halted; stops = g.W.Look.stops; asked = g.W.Look.asked } in
     let r = err_from_is_err_and c.from_residual.result c.from_residual.ensures.1 in
-    let next = item g.S.Work.steps (Some c.args.number) c.deref-in-Item.result.now c.args.work.now in
-    leaves_spent s g.met.W.Look.keeps_itself g.met.W.Look.keeps_on c.pay_item.new.fuel (1, tt {0}) next c.in_err-pay_item-in-Item.field-0.0 r.0 c.from_residual.result _ r.1 r.2 (rests s g.met.W.Look.keeps_itself g.met.W.Look.keeps_on (Spend 1 next) (begins s g.met.W.Look.keeps_itself g.met.W.Look.keeps_on c.args.world.now c.args.fuel.now (block_in g.S.Work.steps c.args.nests c.args.number c.args.turn c.args.one.now c.args.work.now) c.requires) (part_is g.S.Work.steps c.args.nests c.args.number c.args.turn c.args.one.now c.in-Item.part c.deref-in-Item.result.now c.args.work.now _ c.in-Item.is c.deref-in-Item.ensures c.is_part.ensures c.if-is_part.true)) (c.in_err-pay_item-in-Item.ensures, tt)
+    let next = item g.S.Work.steps (Some c.args.number) c.deref.result.now c.args.work.now in
+    leaves_spent s g.met.W.Look.keeps_itself g.met.W.Look.keeps_on c.pay_item.new.fuel (1, tt {0}) next c.in_err-pay_item-in-Item.field-0.0 r.0 c.from_residual.result _ r.1 r.2 (rests s g.met.W.Look.keeps_itself g.met.W.Look.keeps_on (Spend 1 next) (begins s g.met.W.Look.keeps_itself g.met.W.Look.keeps_on c.args.world.now c.args.fuel.now (block_in g.S.Work.steps c.args.nests c.args.number c.args.turn c.args.one.now c.args.work.now) c.requires) (part_is g.S.Work.steps c.args.nests c.args.number c.args.turn c.args.one.now c.in-Item.part c.deref.result.now c.args.work.now _ c.in-Item.is c.deref.ensures c.is_part.ensures c.if-is_part.true)) (c.in_err-pay_item-in-Item.ensures, tt)
 
 pub block-returns-then-is_part : goal.block-returns-then-is_part
 block-returns-then-is_part g t c =
     let s : Sight Reply _ = record { tells = g.W.Look.tells; keeps = g.W.Look.keeps; halted = g.W.Look.halted; stops = g.W.Look.stops; asked = g.W.Look.asked } in
-    let next = item g.S.Work.steps (Some c.args.number) c.deref-in-Item.result.now c.args.work.now in let same = item g.S.Work.steps (Some c.args.number) c.deref-then-is_part.result.now c.args.work.now in
-    ends s g.met.W.Look.keeps_itself g.met.W.Look.keeps_on c.item.new.world c.item.new.fuel same _ (rests s g.met.W.Look.keeps_itself g.met.W.Look.keeps_on same (pays s g.met.W.Look.keeps_itself g.met.W.Look.keeps_on (1, tt {0}) next tt (rests s g.met.W.Look.keeps_itself g.met.W.Look.keeps_on (Spend 1 next) (begins s g.met.W.Look.keeps_itself g.met.W.Look.keeps_on c.args.world.now c.args.fuel.now (block_in g.S.Work.steps c.args.nests c.args.number c.args.turn c.args.one.now c.args.work.now) c.requires) (part_is g.S.Work.steps c.args.nests c.args.number c.args.turn c.args.one.now c.in-Item.part c.deref-in-Item.result.now c.args.work.now _ c.in-Item.is c.deref-in-Item.ensures c.is_part.ensures c.if-is_part.true)) (c.in_ok-pay_item-in-Item.ensures, refl)) (ap (λ x. item g.S.Work.steps (Some c.args.number) x c.args.work.now) (c.deref-in-Item.ensures ∙ sym c.deref-then-is_part.ensures))) c.item.ensures
+    let next = item g.S.Work.steps (Some c.args.number) c.deref.result.now c.args.work.now in let same = item g.S.Work.steps (Some c.args.number) c.deref-then-is_part.result.now c.args.work.now in
+    ends s g.met.W.Look.keeps_itself g.met.W.Look.keeps_on c.item.new.world c.item.new.fuel same _ (rests s g.met.W.Look.keeps_itself g.met.W.Look.keeps_on same (pays s g.met.W.Look.keeps_itself g.met.W.Look.keeps_on (1, tt {0}) next tt (rests s g.met.W.Look.keeps_itself g.met.W.Look.keeps_on (Spend 1 next) (begins s g.met.W.Look.keeps_itself g.met.W.Look.keeps_on c.args.world.now c.args.fuel.now (block_in g.S.Work.steps c.args.nests c.args.number c.args.turn c.args.one.now c.args.work.now) c.requires) (part_is g.S.Work.steps c.args.nests c.args.number c.args.turn c.args.one.now c.in-Item.part c.deref.result.now c.args.work.now _ c.in-Item.is c.deref.ensures c.is_part.ensures c.if-is_part.true)) (c.in_ok-pay_item-in-Item.ensures, refl)) (ap (λ x. item g.S.Work.steps (Some c.args.number) x c.args.work.now) (c.deref.ensures ∙ sym c.deref-then-is_part.ensures))) c.item.ensures
 
 pub block-returns-else-is_part : goal.block-returns-else-is_part
 block-returns-else-is_part g t c =
     let s : Sight Reply _ = record { tells = g.W.Look.tells; keeps = g.W.Look.keeps; halted = g.W.Look.halted; stops = g.W.Look.stops; asked = g.W.Look.asked } in
-    let all = bare_block g.S.Work.steps c.args.number c.args.turn c.deref-in-Item-2.result.now c.args.work.now in
-    ends s g.met.W.Look.keeps_itself g.met.W.Look.keeps_on c.bare.new.world c.bare.new.fuel all _ (rests s g.met.W.Look.keeps_itself g.met.W.Look.keeps_on all (begins s g.met.W.Look.keeps_itself g.met.W.Look.keeps_on c.args.world.now c.args.fuel.now (block_in g.S.Work.steps c.args.nests c.args.number c.args.turn c.args.one.now c.args.work.now) c.requires) (bare_is g.S.Work.steps c.args.nests c.args.number c.args.turn c.args.one.now c.in-Item.part c.deref-in-Item.result.now c.args.work.now _ c.in-Item.is c.deref-in-Item.ensures c.is_part.ensures c.if-is_part.false ∙ ap (λ x. bare_block g.S.Work.steps c.args.number c.args.turn x c.args.work.now) (c.deref-in-Item.ensures ∙ sym c.deref-in-Item-2.ensures))) c.bare.ensures
+    let all = scoped_block g.S.Work.steps c.args.number c.args.turn c.args.one.now c.args.work.now in
+    ends s g.met.W.Look.keeps_itself g.met.W.Look.keeps_on c.scoped-in-Item.new.world c.scoped-in-Item.new.fuel all _ (rests s g.met.W.Look.keeps_itself g.met.W.Look.keeps_on all (begins s g.met.W.Look.keeps_itself g.met.W.Look.keeps_on c.args.world.now c.args.fuel.now (block_in g.S.Work.steps c.args.nests c.args.number c.args.turn c.args.one.now c.args.work.now) c.requires) (bare_is g.S.Work.steps c.args.nests c.args.number c.args.turn c.args.one.now c.in-Item.part c.deref.result.now c.args.work.now _ c.in-Item.is c.deref.ensures c.is_part.ensures c.if-is_part.false)) c.scoped-in-Item.ensures
 
-pub begun-returns-in_err-items : goal.begun-returns-in_err-items
-begun-returns-in_err-items g t c =
+pub scoped-returns-in_err-contents : goal.scoped-returns-in_err-contents
+scoped-returns-in_err-contents g t c =
     let s : Sight Reply _ = record { tells = g.W.Look.tells; keeps = g.W.Look.keeps; halted = g.W.Look.halted; stops = g.W.Look.stops; asked = g.W.Look.asked } in
-    let r = err_from_is_err_and c.from_residual-in_err-items.result c.from_residual-in_err-items.ensures.1 in
-    let all = each (counted_item g.S.Work.steps) c.deref.result.now c.opens.new.work in
-    leaves s g.met.W.Look.keeps_itself g.met.W.Look.keeps_on c.items.new.world c.items.new.fuel all (λ u. Give (g.S.Work.steps.leave u)) c.in_err-items.field-0.0 r.0 c.from_residual-in_err-items.result _ r.1 r.2 (rests s g.met.W.Look.keeps_itself g.met.W.Look.keeps_on (and_then all (λ u. Give (g.S.Work.steps.leave u))) (begins s g.met.W.Look.keeps_itself g.met.W.Look.keeps_on c.args.world.now c.args.fuel.now (begun_block g.S.Work.steps c.args.number c.args.turn c.args.body.now c.args.work.now) c.requires) (block_goes g.S.Work.steps c.args.number c.args.turn c.args.body.now.label c.args.body.now.begin (λ u. each (counted_item g.S.Work.steps) c.args.body.now.items.items u) c.args.work.now c.opens.new.work _ c.in_ok-opens.ensures.opened c.if-not-branch.false c.in_ok-opens.ensures.left ∙ ap (λ l. and_then (each (counted_item g.S.Work.steps) l c.opens.new.work) (λ u. Give (g.S.Work.steps.leave u))) (sym c.deref.ensures.value))) c.in_err-items.ensures
+    let r = err_from_is_err_and c.from_residual-in_err-contents.result c.from_residual-in_err-contents.ensures.1 in
+    let all = contents_of g.S.Work.steps c.args.one.now c.opens.new.work in
+    leaves s g.met.W.Look.keeps_itself g.met.W.Look.keeps_on c.contents.new.world c.contents.new.fuel all (λ u. Give (g.S.Work.steps.leave u)) c.in_err-contents.field-0.0 r.0 c.from_residual-in_err-contents.result _ r.1 r.2 (rests s g.met.W.Look.keeps_itself g.met.W.Look.keeps_on (and_then all (λ u. Give (g.S.Work.steps.leave u))) (begins s g.met.W.Look.keeps_itself g.met.W.Look.keeps_on c.args.world.now c.args.fuel.now (scoped_block g.S.Work.steps c.args.number c.args.turn c.args.one.now c.args.work.now) c.requires) (block_goes g.S.Work.steps c.args.number c.args.turn c.args.one.now (contents_of g.S.Work.steps c.args.one.now) c.args.work.now c.opens.new.work _ c.in_ok-opens.ensures.opened c.if-not-branch.false c.in_ok-opens.ensures.left)) c.in_err-contents.ensures
 
-pub begun-returns : goal.begun-returns
-begun-returns g t c =
+pub scoped-returns : goal.scoped-returns
+scoped-returns g t c =
     let s : Sight Reply _ = record { tells = g.W.Look.tells; keeps = g.W.Look.keeps; halted = g.W.Look.halted; stops = g.W.Look.stops; asked = g.W.Look.asked } in
-    let all = each (counted_item g.S.Work.steps) c.deref.result.now c.opens.new.work in
-    rests s g.met.W.Look.keeps_itself g.met.W.Look.keeps_on (Give c.leave.new.self) (goes_on s g.met.W.Look.keeps_itself g.met.W.Look.keeps_on all (λ u. Give (g.S.Work.steps.leave u)) (rests s g.met.W.Look.keeps_itself g.met.W.Look.keeps_on (and_then all (λ u. Give (g.S.Work.steps.leave u))) (begins s g.met.W.Look.keeps_itself g.met.W.Look.keeps_on c.args.world.now c.args.fuel.now (begun_block g.S.Work.steps c.args.number c.args.turn c.args.body.now c.args.work.now) c.requires) (block_goes g.S.Work.steps c.args.number c.args.turn c.args.body.now.label c.args.body.now.begin (λ u. each (counted_item g.S.Work.steps) c.args.body.now.items.items u) c.args.work.now c.opens.new.work _ c.in_ok-opens.ensures.opened c.if-not-branch.false c.in_ok-opens.ensures.left ∙ ap (λ l. and_then (each (counted_item g.S.Work.steps) l c.opens.new.work) (λ u. Give (g.S.Work.steps.leave u))) (sym c.deref.ensures.value))) c.items.new.work c.in_ok-items.ensures) (ap Give (sym c.in_ok-leave.ensures))
+    let all = contents_of g.S.Work.steps c.args.one.now c.opens.new.work in
+    rests s g.met.W.Look.keeps_itself g.met.W.Look.keeps_on (Give c.leave.new.self) (goes_on s g.met.W.Look.keeps_itself g.met.W.Look.keeps_on all (λ u. Give (g.S.Work.steps.leave u)) (rests s g.met.W.Look.keeps_itself g.met.W.Look.keeps_on (and_then all (λ u. Give (g.S.Work.steps.leave u))) (begins s g.met.W.Look.keeps_itself g.met.W.Look.keeps_on c.args.world.now c.args.fuel.now (scoped_block g.S.Work.steps c.args.number c.args.turn c.args.one.now c.args.work.now) c.requires) (block_goes g.S.Work.steps c.args.number c.args.turn c.args.one.now (contents_of g.S.Work.steps c.args.one.now) c.args.work.now c.opens.new.work _ c.in_ok-opens.ensures.opened c.if-not-branch.false c.in_ok-opens.ensures.left)) c.contents.new.work c.in_ok-contents.ensures) (ap Give (sym c.in_ok-leave.ensures))
 
-pub bare-returns-in_err-pay_item : goal.bare-returns-in_err-pay_item
-bare-returns-in_err-pay_item g t c =
+pub contents-returns-in-Block : goal.contents-returns-in-Block
+contents-returns-in-Block g t c =
     let s : Sight Reply _ = record { tells = g.W.Look.tells; keeps = g.W.Look.keeps; halted = g.W.Look.halted; stops = g.W.Look.stops; asked = g.W.Look.asked } in
-    let r = err_from_is_err_and c.from_residual-in_err-pay_item.result c.from_residual-in_err-pay_item.ensures.1 in
-    let one = item g.S.Work.steps None c.args.part.now c.opens.new.work in
-    leaves_spent s g.met.W.Look.keeps_itself g.met.W.Look.keeps_on c.pay_item.new.fuel (1, tt {0}) (and_then one (λ u. Give (g.S.Work.steps.leave u))) c.in_err-pay_item.field-0.0 r.0 c.from_residual-in_err-pay_item.result _ r.1 r.2 (rests s g.met.W.Look.keeps_itself g.met.W.Look.keeps_on (Spend 1 (and_then one (λ u. Give (g.S.Work.steps.leave u)))) (begins s g.met.W.Look.keeps_itself g.met.W.Look.keeps_on c.args.world.now c.args.fuel.now (bare_block g.S.Work.steps c.args.number c.args.turn c.args.part.now c.args.work.now) c.requires) (bare_token g.S.Work.steps c.args.number c.args.turn c.args.part.now c.args.work.now c.first_token-token.result c.first_token-token.ensures ∙ bare_goes g.S.Work.steps c.args.number c.args.turn c.first_token-token.result c.args.part.now c.args.work.now c.opens.new.work _ c.in_ok-opens.ensures.opened c.if-not-branch.false c.in_ok-opens.ensures.left)) (c.in_err-pay_item.ensures, tt)
+    let all = each (counted_item g.S.Work.steps) c.deref-in-Block.result.now c.args.work.now in
+    ends s g.met.W.Look.keeps_itself g.met.W.Look.keeps_on c.items.new.world c.items.new.fuel all _ (rests s g.met.W.Look.keeps_itself g.met.W.Look.keeps_on all (begins s g.met.W.Look.keeps_itself g.met.W.Look.keeps_on c.args.world.now c.args.fuel.now (contents_of g.S.Work.steps c.args.one.now c.args.work.now) c.requires) (items_within g.S.Work.steps c.args.one.now c.in-Block.body c.deref.result.now c.args.work.now c.deref-in-Block.result.now c.in-Block.is c.deref.ensures c.deref-in-Block.ensures.value)) c.items.ensures
 
-pub bare-returns-in_err-item : goal.bare-returns-in_err-item
-bare-returns-in_err-item g t c =
+pub contents-returns-in_err-pay_item-in-Item : goal.contents-returns-in_err-pay_item-in-Item
+contents-returns-in_err-pay_item-in-Item g t c =
     let s : Sight Reply _ = record { tells = g.W.Look.tells; keeps = g.W.Look.keeps; halted = g.W.Look.halted; stops = g.W.Look.stops; asked = g.W.Look.asked } in
-    let r = err_from_is_err_and c.from_residual-in_err-item.result c.from_residual-in_err-item.ensures.1 in
-    let one = item g.S.Work.steps None c.args.part.now c.opens.new.work in
-    leaves s g.met.W.Look.keeps_itself g.met.W.Look.keeps_on c.item.new.world c.item.new.fuel one (λ u. Give (g.S.Work.steps.leave u)) c.in_err-item.field-0.0 r.0 c.from_residual-in_err-item.result _ r.1 r.2 (pays s g.met.W.Look.keeps_itself g.met.W.Look.keeps_on (1, tt {0}) (and_then one (λ u. Give (g.S.Work.steps.leave u))) tt (rests s g.met.W.Look.keeps_itself g.met.W.Look.keeps_on (Spend 1 (and_then one (λ u. Give (g.S.Work.steps.leave u)))) (begins s g.met.W.Look.keeps_itself g.met.W.Look.keeps_on c.args.world.now c.args.fuel.now (bare_block g.S.Work.steps c.args.number c.args.turn c.args.part.now c.args.work.now) c.requires) (bare_token g.S.Work.steps c.args.number c.args.turn c.args.part.now c.args.work.now c.first_token-token.result c.first_token-token.ensures ∙ bare_goes g.S.Work.steps c.args.number c.args.turn c.first_token-token.result c.args.part.now c.args.work.now c.opens.new.work _ c.in_ok-opens.ensures.opened c.if-not-branch.false c.in_ok-opens.ensures.left)) (c.in_ok-pay_item.ensures, refl)) c.in_err-item.ensures
+    let r = err_from_is_err_and c.from_residual.result c.from_residual.ensures.1 in
+    let next = item g.S.Work.steps None c.in-Item.part.value c.args.work.now in
+    leaves_spent s g.met.W.Look.keeps_itself g.met.W.Look.keeps_on c.pay_item.new.fuel (1, tt {0}) next c.in_err-pay_item-in-Item.field-0.0 r.0 c.from_residual.result _ r.1 r.2 (rests s g.met.W.Look.keeps_itself g.met.W.Look.keeps_on (Spend 1 next) (begins s g.met.W.Look.keeps_itself g.met.W.Look.keeps_on c.args.world.now c.args.fuel.now (contents_of g.S.Work.steps c.args.one.now c.args.work.now) c.requires) (item_within g.S.Work.steps c.args.one.now c.in-Item.part c.in-Item.part.value c.args.work.now c.in-Item.is refl)) (c.in_err-pay_item-in-Item.ensures, tt)
 
-pub bare-returns : goal.bare-returns
-bare-returns g t c =
+pub contents-returns-in_ok-pay_item-in-Item : goal.contents-returns-in_ok-pay_item-in-Item
+contents-returns-in_ok-pay_item-in-Item g t c =
     let s : Sight Reply _ = record { tells = g.W.Look.tells; keeps = g.W.Look.keeps; halted = g.W.Look.halted; stops = g.W.Look.stops; asked = g.W.Look.asked } in
-    let one = item g.S.Work.steps None c.args.part.now c.opens.new.work in
-    rests s g.met.W.Look.keeps_itself g.met.W.Look.keeps_on (Give c.leave.new.self) (goes_on s g.met.W.Look.keeps_itself g.met.W.Look.keeps_on one (λ u. Give (g.S.Work.steps.leave u)) (pays s g.met.W.Look.keeps_itself g.met.W.Look.keeps_on (1, tt {0}) (and_then one (λ u. Give (g.S.Work.steps.leave u))) tt (rests s g.met.W.Look.keeps_itself g.met.W.Look.keeps_on (Spend 1 (and_then one (λ u. Give (g.S.Work.steps.leave u)))) (begins s g.met.W.Look.keeps_itself g.met.W.Look.keeps_on c.args.world.now c.args.fuel.now (bare_block g.S.Work.steps c.args.number c.args.turn c.args.part.now c.args.work.now) c.requires) (bare_token g.S.Work.steps c.args.number c.args.turn c.args.part.now c.args.work.now c.first_token-token.result c.first_token-token.ensures ∙ bare_goes g.S.Work.steps c.args.number c.args.turn c.first_token-token.result c.args.part.now c.args.work.now c.opens.new.work _ c.in_ok-opens.ensures.opened c.if-not-branch.false c.in_ok-opens.ensures.left)) (c.in_ok-pay_item.ensures, refl)) c.item.new.work c.in_ok-item.ensures) (ap Give (sym c.in_ok-leave.ensures))
+    let next = item g.S.Work.steps None c.deref-in-Item.result.now c.args.work.now in
+    ends s g.met.W.Look.keeps_itself g.met.W.Look.keeps_on c.item.new.world c.item.new.fuel next _ (pays s g.met.W.Look.keeps_itself g.met.W.Look.keeps_on (1, tt {0}) next tt (rests s g.met.W.Look.keeps_itself g.met.W.Look.keeps_on (Spend 1 next) (begins s g.met.W.Look.keeps_itself g.met.W.Look.keeps_on c.args.world.now c.args.fuel.now (contents_of g.S.Work.steps c.args.one.now c.args.work.now) c.requires) (item_within g.S.Work.steps c.args.one.now c.in-Item.part c.deref-in-Item.result.now c.args.work.now c.in-Item.is c.deref-in-Item.ensures)) (c.in_ok-pay_item-in-Item.ensures, refl)) c.item.ensures
