@@ -1,0 +1,43 @@
+-- What an instance leaves in its scope, and the child that it is (IEEE 1800-2017, 23.3).
+use Rattle.std.specs.Prelude.{ℕ, List, Option, Some, None}
+use Rattle.std.specs.List.{fold}
+use Rattle.sve_bytes.specs.declared.path.Path.{Path}
+use Rattle.sve_tree.specs.declared.item.Instance.{Instance}
+use Rattle.sve_tree.specs.declared.token_word.Word.{Word}
+use Rattle.sve_use.specs.Uses.{uses_of_arguments}
+use Rattle.sve_spec.specs.Specialization.{Specialization}
+use Rattle.sve_facts.specs.declared.facts.Child.{Child}
+use Rattle.sve_facts.specs.declared.facts.Port.{Port}
+use Rattle.sve_known.specs.Packages.{Known}
+use Rattle.sve_known.specs.Naming.{name_at}
+use Rattle.sve_contents.specs.declared.contents.Contents.{Contents}
+use Rattle.sve_used.specs.Used.{name_used}
+use Rattle.sve_nested.specs.Blocks.{path_to}
+use Rattle.sve_instance.specs.declared.connections.Connections.{Connections}
+use Rattle.sve_instance.specs.Connections.{with_connections}
+use Rattle.sve_instance.specs.Unknown.{with_unknown}
+use Rattle.sve_child.specs.declared.children.Placed.{Placed}
+use Rattle.sve_child.specs.Seen.{seen_at}
+
+-- the child of this name, in the scope of a path
+abbrev pub child_named : Path → Option (List ℕ) → Specialization → ℕ → List (List ℕ) → Option Child
+child_named path None spec token unconnected = None
+child_named path (Some n) spec token unconnected = Some (record { path = path_to path n None; spec = spec; token = token; unconnected = unconnected })
+
+-- behind what its connections leave
+abbrev pub placed_as : List Word → Path → Specialization → ℕ → Connections → Placed
+placed_as ws path spec token left = record { contents = left.contents; child = child_named path (name_at ws token) spec token left.unconnected }
+
+-- where these packages are known
+module _ (packages : List Known) (ws : List Word) where
+  -- the names in its connections are used
+  abbrev pub connections_used : Contents → Instance → Contents
+  connections_used c i = fold (name_used packages ws) c (uses_of_arguments i.connections)
+
+  -- an instance of a specialization, whose ports are these
+  abbrev pub with_child : Contents → Path → Specialization → List Port → Instance → Placed
+  with_child c path spec ports i = placed_as ws path spec i.name (with_connections (seen_at packages ws i.name) ws (connections_used c i) ports i)
+
+  -- an instance without a specialization is no child
+  abbrev pub with_no_child : Contents → Instance → Contents
+  with_no_child c i = with_unknown (seen_at packages ws i.name) ws (connections_used c i) i

@@ -1,0 +1,5 @@
+pub mod Interfaces
+pub mod Seen
+pub mod Definitions
+pub mod Nets
+pub mod Children

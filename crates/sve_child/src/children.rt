@@ -1,0 +1,123 @@
+//! Instances in the scope in which they stand.
+ghost use Rattle.std.specs.Prelude.{◌≡◌, IfOk, None, option_map};
+ghost use Rattle.sve_nested.specs.Blocks.{path_to};
+ghost use Rattle.sve_child.specs.Children.{child_named, placed_as, with_child, with_no_child};
+
+use crate::interfaces::NoInterfaces;
+use std::alloc::Global;
+use sve_bytes::{List, Name, NoMemory, Path, Step};
+use sve_contents::Contents;
+use sve_facts::{Child, Port};
+use sve_instance::{Connections, with_connections, with_unknown};
+use sve_known::name_at;
+use sve_scoped::Text;
+use sve_spec::Spec;
+use sve_tree::{Instance, Word};
+use sve_used_names::arguments_used;
+
+/// What an instance of a specialization leaves.
+#[derive(Drop)]
+pub struct Placed {
+    /// The scope, and what is to be said of it.
+    pub contents: Contents,
+    /// The child that it is, where it has a name.
+    pub child: Option<Child>,
+}
+
+/// The path of an instance of this name in the scope of a path.
+fn path_to(alloc: Global, path: &Path, name: &Name) -> Result<Path, NoMemory>
+    ensures { IfOk result (λ p. p ≡ path_to path.now name.now None) }
+{
+    let Path { steps } = path.copy(alloc)?;
+    let mut steps = steps.into_vec();
+    steps.push(Step {
+        name: name.copy()?,
+        index: None,
+    })?;
+    Ok(Path {
+        steps: List::of(steps),
+    })
+}
+
+/// The child of this name in the scope of a path.
+fn child_named(
+    alloc: Global,
+    path: &Path,
+    name: Option<&Name>,
+    spec: Spec,
+    token: u32,
+    unconnected: List<Name>,
+) -> Result<Option<Child>, NoMemory>
+    ensures { IfOk result (λ c. c ≡ child_named path.now (option_map (λ n. n.now) name.entry) spec token unconnected) }
+{
+    let Some(name) = name else {
+        return Ok(None);
+    };
+    let path = path_to(alloc, path, name)?;
+    Ok(Some(Child {
+        path,
+        spec,
+        token,
+        unconnected,
+    }))
+}
+
+/// The child whose name is at a token, behind what its connections leave.
+fn placed_as(
+    alloc: Global,
+    words: &[Word],
+    path: &Path,
+    spec: Spec,
+    token: u32,
+    left: Connections,
+) -> Result<Placed, NoMemory>
+    ensures { IfOk result (λ p. p ≡ placed_as words.now path.now spec token left) }
+{
+    let Connections {
+        contents,
+        pairs: _,
+        unconnected,
+    } = left;
+    let name = name_at(words, token);
+    let child = child_named(alloc, path, name, spec, token, unconnected)?;
+    Ok(Placed { contents, child })
+}
+
+/// What an instance of this specialization leaves in the scope of a path of the body, where the specialization has these ports
+/// (IEEE 1800-2017, 23.3): the names in its connections are used, its name is declared, and what is wrong with its connections is said.
+/// The child's path is that of the scope and its own name; without a name it is none.
+///
+/// # Errors
+/// For want of memory alone.
+pub fn with_child(
+    alloc: Global,
+    text: Text<'_>,
+    contents: Contents,
+    path: &Path,
+    spec: Spec,
+    ports: &[Port],
+    instance: &Instance,
+) -> Result<Placed, NoMemory>
+    ensures { IfOk result (λ p. p ≡ with_child text.entry.packages.now text.entry.words.now contents path.now spec ports.now instance.now) }
+{
+    let contents = arguments_used(alloc, text, contents, &instance.connections)?;
+    let left = with_connections(alloc, text, contents, &NoInterfaces, ports, instance)?;
+    placed_as(alloc, text.words, path, spec, instance.name, left)
+}
+
+/// What an instance without a specialization leaves, which is no child (IEEE 1800-2017, 23.3.2): the names in its connections are used,
+/// and its name is declared.
+///
+/// # Errors
+/// For want of memory alone.
+pub fn with_no_child(
+    alloc: Global,
+    text: Text<'_>,
+    contents: Contents,
+    instance: &Instance,
+) -> Result<Contents, NoMemory>
+    ensures { IfOk result (λ c. c ≡ with_no_child text.entry.packages.now text.entry.words.now contents instance.now) }
+{
+    let contents = arguments_used(alloc, text, contents, &instance.connections)?;
+    with_unknown(alloc, text, contents, &NoInterfaces, instance)
+}

@@ -1,0 +1,4 @@
+pub mod Leaving
+pub mod Beginnings
+pub mod Bodies
+pub mod Ended

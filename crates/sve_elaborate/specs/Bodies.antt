@@ -1,0 +1,93 @@
+-- The elaboration of a specialization, as a plan (IEEE 1800-2017, 3.12.1, 23.10, clauses 23, 26 and 27).
+use Rattle.std.specs.Prelude.{◌≡◌, ℕ, List, Option, Some, None, Result, Ok, Err}
+use Rattle.sve_io.specs.declared.halt.Halt.{Halt}
+use Rattle.sve_io.specs.declared.halt.Halt.TheVariants as is_halt
+use Rattle.sve_table.specs.Tables.{item_of}
+use Rattle.sve_tree.specs.declared.element.Element.{Element}
+use Rattle.sve_tree.specs.declared.element.Definition.{Definition}
+use Rattle.sve_tree.specs.declared.token_word.Word.{Word}
+use Rattle.sve_tree.specs.Elements.{element_definition}
+use Rattle.sve_index.specs.declared.def.Def.{Def}
+use Rattle.sve_index.specs.declared.whole.Index.{Index}
+use Rattle.sve_index.specs.Defs.{def_name}
+use Rattle.sve_spec.specs.Specialization.{Specialization, specialization}
+use Rattle.sve_spec.specs.declared.given.Given.{Given}
+use Rattle.sve_facts.specs.declared.facts.Facts.{Facts}
+use Rattle.sve_facts.specs.Facts.{no_facts}
+use Rattle.sve_facts.specs.declared.bodies.Body.{Body}
+use Rattle.sve_facts.specs.Bodies.{BodyValue, Costs, CostsMore, body_value}
+use Rattle.sve_known.specs.Packages.{Known}
+use Rattle.sve_contents.specs.declared.contents.Contents.{Contents}
+use Rattle.sve_contents.specs.Nested.{entered}
+use Rattle.sve_function.specs.Readings.{readings}
+use Rattle.sve_plan.specs.declared.stop.Stop.{Stop}
+use Rattle.sve_plan.specs.declared.stop.Stop.TheVariants as is_stop
+use Rattle.sve_plan.specs.Plan.{Done, Give, Needs, Outcome, Over, Plan, and_then, ask}
+use Rattle.sve_look.specs.Questions.{ElementOf, IndexOf, Question, Reply}
+use Rattle.sve_body.specs.Body.{body}
+use Rattle.sve_elaboration.specs.Ends.{begun_body, facts_of}
+use Rattle.sve_elaboration.specs.Elaborating.{elaborating}
+use Rattle.sve_unit_scope.specs.Elements.{ChunkElement, elements_before}
+use Rattle.sve_unit_scope.specs.Packages.{packages_named}
+use Rattle.sve_unit_scope.specs.Units.{unit_of}
+
+-- the module or the interface, and what its parameters are given
+abbrev pub definition_of : Specialization → List ℕ
+definition_of (specialization definition values faces) = definition
+
+abbrev pub values_of : Specialization → List Given
+values_of (specialization definition values faces) = values
+
+-- A body in its scope: its header, then its items, and then what was found.
+unfoldable pub body_in : List Known → List Word → List Given → Contents → Definition → Plan Reply Facts
+body_in packages ws given c d = and_then (body elaborating d.header d.items.items (begun_body packages ws given c d)) (λ s. Give (facts_of s))
+
+-- The scope of the body stands inside of the scope of the compilation unit.
+abbrev pub within : List Known → Specialization → Def → List ChunkElement → Element → Definition → Plan Reply Facts
+within packages spec def es own d = body_in packages own.words.items (values_of spec) (entered (unit_of readings packages def.file def.chunk es own)) d
+
+-- an element without module or interface has a body with nothing in it
+abbrev pub of_definition : List Known → Specialization → Def → List ChunkElement → Element → Option Definition → Plan Reply Facts
+of_definition packages spec def es own None = Give no_facts
+of_definition packages spec def es own (Some d) = within packages spec def es own d
+
+module _ (index : Index) (spec : Specialization) (def : Def) where
+  abbrev pub of_tree : List ChunkElement → Element → Plan Reply Facts
+  of_tree es own = and_then (packages_named index es own) (λ packages. of_definition packages spec def es own (element_definition own))
+
+  -- so has a chunk that is refused
+  abbrev pub of_element : List ChunkElement → Option Element → Plan Reply Facts
+  of_element es None = Give no_facts
+  of_element es (Some own) = of_tree es own
+
+  -- the elements of the file in front of it are asked for, and then its own
+  abbrev pub at_definition : Plan Reply Facts
+  at_definition = and_then (elements_before def.file def.chunk) (λ es. and_then (ask (ElementOf def.file def.chunk)) (λ own. of_element es own))
+
+-- and so has a name that the index lacks
+abbrev pub at_place : Index → Specialization → Option Def → Plan Reply Facts
+at_place index spec None = Give no_facts
+at_place index spec (Some def) = at_definition index spec def
+
+unfoldable pub elaborated : Specialization → Plan Reply Facts
+elaborated spec = and_then (ask IndexOf) (λ index. at_place index spec (item_of def_name (definition_of spec) index.definitions))
+
+-- ---- as what a call gives
+
+-- what a body comes to, where nothing is needed: that it costs more, or what is found of it and what that costs
+abbrev pub outcome_value : Outcome Question Facts → Option BodyValue
+outcome_value (Done facts cost) = Some (Costs facts cost)
+outcome_value Over = Some CostsMore
+outcome_value (Needs q) = None
+
+-- the same of a call that follows the plan, by what was spent in it
+abbrev pub end_value : Result Facts Stop → ℕ → Option BodyValue
+end_value (Ok facts) cost = Some (Costs facts cost)
+end_value (Err is_stop.Over) cost = Some CostsMore
+end_value (Err (is_stop.Halted halt)) cost = None
+
+-- A call that gives a body or halts gives what such a call came to, and is stopped only as that was.
+abbrev pub EndsAs : Result Facts Stop → ℕ → Result Body Halt → Type 0
+EndsAs end cost (Ok body) = end_value end cost ≡ Some (body_value body)
+EndsAs end cost (Err (is_halt.Stopped number)) = end ≡ Err (is_stop.Halted (is_halt.Stopped number))
+EndsAs end cost (Err is_halt.NoMemory) = Unit {0}

@@ -1,0 +1,201 @@
+//! The definition of a specialization, and its body.
+ghost use Rattle.std.specs.Prelude.{◌≡◌, Option, option_map};
+ghost use Rattle.sve_fault.specs.Counts.{IsFuel};
+ghost use Rattle.sve_table.specs.Tables.{item_of};
+ghost use Rattle.sve_index.specs.Defs.{def_name};
+ghost use Rattle.sve_plan.specs.Follows.{Follows};
+ghost use Rattle.sve_look.specs.Questions.{element_in};
+ghost use Rattle.sve_tree.specs.Elements.{element_definition};
+ghost use Rattle.sve_elaborate.specs.Bodies.{at_definition, at_place, definition_of, elaborated, of_definition, of_element, of_tree, values_of, within};
+
+use crate::within::{body_in, scope_in_unit};
+use std::alloc::Global;
+use std::sync::Arc;
+use sve_bytes::Name;
+use sve_facts::Facts;
+use sve_function::Constants;
+use sve_index::{Def, Index};
+use sve_known::Known;
+use sve_look::Look;
+use sve_plan::{Fuel, Stop};
+use sve_question::{ask_element, ask_index};
+use sve_scoped::Text;
+use sve_spec::{Given, Spec};
+use sve_table::Table;
+use sve_tree::{Definition, Element};
+use sve_unit_scope::{ChunkElement, add_packages_named, elements_before};
+
+/// The name of the module or the interface.
+fn definition_of(spec: &Spec) -> &Name
+    ensures { result.now ≡ definition_of spec.now }
+{
+    &spec.definition
+}
+
+/// What the parameters of a specialization are given.
+fn values_of(spec: &Spec) -> &[Given]
+    ensures { result.now ≡ values_of spec.now }
+{
+    spec.values.items()
+}
+
+/// The body of a definition, over the packages that are known and the elements in front of its own.
+fn within<W: Look>(
+    alloc: Global,
+    packages: &Table<Known>,
+    spec: &Spec,
+    def: &Def,
+    elements: &[ChunkElement],
+    own: &Element,
+    definition: &Definition,
+    world: &mut W,
+    fuel: &mut Fuel,
+) -> Result<Facts, Stop>
+    requires { IsFuel fuel.old }
+    ensures { Follows (record { tells = W.tells; keeps = W.keeps; halted = W.halted; stops = W.stops; asked = W.asked }) world.old world.new fuel.old fuel.new (within packages.now spec.now def.now elements.now own.now definition.now) result }
+{
+    let contents = scope_in_unit(
+        alloc, &Constants, packages, &def.file, def.chunk, elements, own,
+    )?;
+    let text = Text {
+        packages,
+        words: own.words.as_slice(),
+    };
+    body_in(
+        alloc,
+        text,
+        values_of(spec),
+        contents,
+        definition,
+        world,
+        fuel,
+    )
+}
+
+/// The body of an element, by whether it has a module or an interface.
+fn of_definition<W: Look>(
+    alloc: Global,
+    packages: &Table<Known>,
+    spec: &Spec,
+    def: &Def,
+    elements: &[ChunkElement],
+    own: &Element,
+    world: &mut W,
+    fuel: &mut Fuel,
+) -> Result<Facts, Stop>
+    requires { IsFuel fuel.old }
+    ensures { Follows (record { tells = W.tells; keeps = W.keeps; halted = W.halted; stops = W.stops; asked = W.asked }) world.old world.new fuel.old fuel.new (of_definition packages.now spec.now def.now elements.now own.now (element_definition own.now)) result }
+{
+    match own.definition() {
+        Some(definition) => {
+            within(
+                alloc, packages, spec, def, elements, own, definition, world, fuel,
+            )
+        }
+        None => Ok(Facts::none(alloc)),
+    }
+}
+
+/// The body of an element, whose packages are asked for first.
+fn of_tree<W: Look>(
+    alloc: Global,
+    index: &Index,
+    spec: &Spec,
+    def: &Def,
+    elements: &[ChunkElement],
+    own: &Element,
+    world: &mut W,
+    fuel: &mut Fuel,
+) -> Result<Facts, Stop>
+    requires { IsFuel fuel.old }
+    ensures { Follows (record { tells = W.tells; keeps = W.keeps; halted = W.halted; stops = W.stops; asked = W.asked }) world.old world.new fuel.old fuel.new (of_tree index.now spec.now def.now elements.now own.now) result }
+{
+    let mut packages = Table::new(alloc);
+    add_packages_named(alloc, index, elements, own, &mut packages, world, fuel)?;
+    of_definition(alloc, &packages, spec, def, elements, own, world, fuel)
+}
+
+/// The body of a chunk, by whether it has a tree.
+fn of_element<W: Look>(
+    alloc: Global,
+    index: &Index,
+    spec: &Spec,
+    def: &Def,
+    elements: &[ChunkElement],
+    own: &Option<Arc<Element>>,
+    world: &mut W,
+    fuel: &mut Fuel,
+) -> Result<Facts, Stop>
+    requires { IsFuel fuel.old }
+    ensures { Follows (record { tells = W.tells; keeps = W.keeps; halted = W.halted; stops = W.stops; asked = W.asked }) world.old world.new fuel.old fuel.new (of_element index.now spec.now def.now elements.now (element_in own.now)) result }
+{
+    match own {
+        Some(own) => of_tree(alloc, index, spec, def, elements, own, world, fuel),
+        None => Ok(Facts::none(alloc)),
+    }
+}
+
+/// The body of the definition that stands there.
+fn at_definition<W: Look>(
+    alloc: Global,
+    index: &Index,
+    spec: &Spec,
+    def: &Def,
+    world: &mut W,
+    fuel: &mut Fuel,
+) -> Result<Facts, Stop>
+    requires { IsFuel fuel.old }
+    ensures { Follows (record { tells = W.tells; keeps = W.keeps; halted = W.halted; stops = W.stops; asked = W.asked }) world.old world.new fuel.old fuel.new (at_definition index.now spec.now def.now) result }
+{
+    let mut elements = Vec::new(alloc);
+    elements_before(&def.file, def.chunk, &mut elements, world, fuel)?;
+    let own = ask_element(&def.file, def.chunk, world, fuel)?;
+    of_element(
+        alloc,
+        index,
+        spec,
+        def,
+        elements.as_slice(),
+        &own,
+        world,
+        fuel,
+    )
+}
+
+/// Where the definition of a specialization stands.
+fn place_of<'a>(index: &'a Index, spec: &Spec) -> Option<&'a Def>
+    ensures { option_map (λ d. d.now) result ≡ item_of def_name (definition_of spec.now) index.now.definitions }
+{
+    index.definitions.get(definition_of(spec))
+}
+
+/// The body of a specialization, by where its definition stands.
+fn at_place<W: Look>(
+    alloc: Global,
+    index: &Index,
+    spec: &Spec,
+    world: &mut W,
+    fuel: &mut Fuel,
+) -> Result<Facts, Stop>
+    requires { IsFuel fuel.old }
+    ensures { Follows (record { tells = W.tells; keeps = W.keeps; halted = W.halted; stops = W.stops; asked = W.asked }) world.old world.new fuel.old fuel.new (at_place index.now spec.now (item_of def_name (definition_of spec.now) index.now.definitions)) result }
+{
+    match place_of(index, spec) {
+        Some(def) => at_definition(alloc, index, spec, def, world, fuel),
+        None => Ok(Facts::none(alloc)),
+    }
+}
+
+/// What is found of the body of a specialization.
+pub(crate) fn elaborated<W: Look>(
+    alloc: Global,
+    spec: &Spec,
+    world: &mut W,
+    fuel: &mut Fuel,
+) -> Result<Facts, Stop>
+    requires { IsFuel fuel.old }
+    ensures { Follows (record { tells = W.tells; keeps = W.keeps; halted = W.halted; stops = W.stops; asked = W.asked }) world.old world.new fuel.old fuel.new (elaborated spec.now) result }
+{
+    let index = ask_index(world, fuel)?;
+    at_place(alloc, &index, spec, world, fuel)
+}

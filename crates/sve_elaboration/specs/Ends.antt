@@ -1,0 +1,42 @@
+-- A body at its beginning and at its end (IEEE 1800-2017, 23.2 and 23.9).
+use Rattle.std.specs.Prelude.{List, []}
+use Rattle.std.specs.Option.{is_none}
+use Rattle.sve_tree.specs.declared.token_word.Word.{Word}
+use Rattle.sve_tree.specs.declared.element.Definition.{Definition}
+use Rattle.sve_contents.specs.declared.contents.Contents.{Contents}
+use Rattle.sve_item_names.specs.Declarations.{header_headings}
+use Rattle.sve_ahead.specs.Ahead.{ahead_in}
+use Rattle.sve_spec.specs.declared.given.Given.{Given}
+use Rattle.sve_known.specs.Packages.{Known}
+use Rattle.sve_nested.specs.Blocks.{begun, closed}
+use Rattle.sve_facts.specs.declared.facts.Facts.{Facts}
+use Rattle.sve_elaboration.specs.State.{Found}
+
+-- A body begins, where these packages are known, in a chunk of these words, by what its parameters are given: in its scope what its text declares further on
+-- is announced.
+abbrev pub begun_body : List Known → List Word → List Given → Contents → Definition → Found
+begun_body packages ws given c d = record {
+  packages = packages;
+  words = ws;
+  given = given;
+  is_open = is_none d.header.parameters;
+  place = 0;
+  nested = begun c (ahead_in ws (header_headings d.header) d.items.items);
+  overrides = [];
+  values = [];
+  ports = [];
+  children = [];
+  nets = [];
+}
+
+-- what is found of a body whose text was gone over to its end; the hierarchical names that it uses are not told apart
+abbrev pub facts_of : Found → Facts
+facts_of s = record {
+  scopes = closed s.nested.blocks.inner s.nested.contents.scope s.nested.blocks.scopes;
+  params = s.values;
+  ports = s.ports;
+  children = s.children;
+  hierarchical = [];
+  nets = s.nets;
+  notes = s.nested.contents.notes;
+}

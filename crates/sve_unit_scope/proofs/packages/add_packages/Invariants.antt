@@ -1,0 +1,9 @@
+-- What was done so far, and what is left, is the whole.
+use Rattle.std.proofs.Common.{drop}
+use Rattle.sve_plan.specs.Plan.{each}
+use Rattle.sve_plan.specs.Follows.{Reaches}
+use Rattle.sve_unit_scope.specs.Packages.{with_package}
+use Rattle.sve_unit_scope.proofs.packages.add_packages.Given as goal
+
+abbrev pub invariant-names : goal.invariant-names
+invariant-names g l = Reaches (record { tells = g.W.Look.tells; keeps = g.W.Look.keeps; halted = g.W.Look.halted; stops = g.W.Look.stops; asked = g.W.Look.asked }) l.fn.world l.world l.fuel l.fuel (each (with_package l.index) l.names l.fn.known) (each (with_package l.index) (drop l.name-index l.names) l.known)
