@@ -1,0 +1,108 @@
+//! What a row asks for.
+use std::alloc::Global;
+use sve_bytes::{List, Name, NoMemory};
+use sve_row::{decoded, name_of, offset_of, value_of, word};
+use sve_spec::{Given, Spec};
+use sve_types::Value;
+
+/// What a row asks for.
+#[derive(Drop)]
+pub struct Asked {
+    /// The specialization.
+    pub spec: Spec,
+    /// What it may cost.
+    pub most: u32,
+    /// The token of its chunk from which on the default net type is `none`.
+    pub none: u32,
+}
+
+/// What a word gives a parameter.
+fn given_of(alloc: Global, word: &str) -> Result<Option<Given>, NoMemory> {
+    if word == "-" {
+        return Ok(Some(Given::Default));
+    }
+    if word == "?" {
+        return Ok(Some(Given::Bad));
+    }
+    if let Some(text) = word.strip_prefix("\"") {
+        let text = decoded(alloc, text.trim_end_matches('"'))?;
+        return Ok(Some(Given::Value(Value::Text(List::of(text)))));
+    }
+    match value_of(word) {
+        Some(bits) => Ok(Some(Given::Value(Value::Bits(bits)))),
+        None => Ok(None),
+    }
+}
+
+/// What words with commas between them give parameters, unless one is of no form.
+fn all_given(alloc: Global, words: &str) -> Result<Option<Vec<Given>>, NoMemory> {
+    let mut given = Vec::new(alloc);
+    for word in words.split(',') {
+        match given_of(alloc, word)? {
+            Some(one) => given.push(one)?,
+            None => return Ok(None),
+        }
+    }
+    Ok(Some(given))
+}
+
+/// What a text between `#(` and `)` gives parameters; where it has not this form, nothing.
+fn given_in(alloc: Global, text: &str) -> Result<Option<Vec<Given>>, NoMemory> {
+    if text.is_empty() {
+        return Ok(Some(Vec::new(alloc)));
+    }
+    match text.strip_prefix("#(") {
+        Some(words) => all_given(alloc, words.trim_end_matches(')')),
+        None => Ok(None),
+    }
+}
+
+/// The number behind this word, where it stands among words, and else another.
+fn number_behind(words: &str, key: &str, otherwise: u32) -> u32 {
+    let mut is_next = false;
+    for each in words.split(' ') {
+        if is_next {
+            return offset_of(each).unwrap_or(otherwise);
+        }
+        is_next = each == key;
+    }
+    otherwise
+}
+
+/// What stands behind the name, parted into what is given and the rest.
+fn parted(rest: &str) -> (&str, &str) {
+    if rest.starts_with("#(") {
+        return word(rest);
+    }
+    ("", rest)
+}
+
+/// What a row asks for of a definition of this name.
+fn asked_of(alloc: Global, definition: Name, rest: &str) -> Result<Option<Asked>, NoMemory> {
+    let (given, rest) = parted(rest);
+    match given_in(alloc, given)? {
+        Some(given) => Ok(Some(Asked {
+            spec: Spec {
+                definition,
+                values: List::of(given),
+                faces: Vec::new(alloc),
+            },
+            most: number_behind(rest, "most", u32::MAX),
+            none: number_behind(rest, "none", u32::MAX),
+        })),
+        None => Ok(None),
+    }
+}
+
+/// What the first field of a row asks for, where it is of the form.
+pub fn asked_in(alloc: Global, field: &str) -> Result<Option<Asked>, NoMemory> {
+    let (kind, rest) = word(field);
+    if kind != "body" {
+        return Ok(None);
+    }
+    let (name, rest) = word(rest);
+    match name_of(alloc, name.as_bytes())? {
+        Some(name) => asked_of(alloc, name, rest),
+        None => Ok(None),
+    }
+}
