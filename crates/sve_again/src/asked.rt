@@ -46,7 +46,7 @@ pub fn answered<K: Ending, W: Watch>(
     requires fits { IsTrue (K.fits kinds.old (newest_files core.old.history)) }
     ensures fits { IsTrue (K.fits kinds.new (newest_files core.old.history)) }
     ensures history { core.new.history ≡ core.old.history }
-    ensures answer { IfOk result.0 (λ answer. IsAnswer K.Key.cmp (values_of (K.given (newest_files core.old.history))) K.make K.answer_over query.now budget answer) }
+    ensures answer { IfOk result.0 (λ answer. IsAnswer K.Key.cmp (values_of (K.given (newest_files core.old.history))) K.make K.answers_over query.now budget answer) }
     ensures quiet { (table : K.Key → ℕ → K.Value) → IsTable K.Key.cmp (values_of (K.given (newest_files core.old.history))) K.make table → ((k : K.Key) (f : ℕ) → K.is_input k ≡ false → K.asks_over table query.now budget k f → IsUpToDate (record { cmp = K.Key.cmp; given = K.given; make = K.make; ranked = K.ranked; serves = K.serves }) (newest_files core.old.history) [] core.old.memos k f) → K.counted kinds.new ≡ K.counted kinds.old }
     ensures done { (table : K.Key → ℕ → K.Value) → IsTable K.Key.cmp (values_of (K.given (newest_files core.old.history))) K.make table → IfOk result.0 (λ answer. IsDone answer → (k : K.Key) (f : ℕ) → K.is_input k ≡ false → K.asks_over table query.now budget k f → IsUpToDate (record { cmp = K.Key.cmp; given = K.given; make = K.make; ranked = K.ranked; serves = K.serves }) (newest_files core.old.history) [] core.new.memos k f) }
     ensures gave { GaveMore (W.gave watch) (W.gave result.1) }
@@ -77,11 +77,11 @@ fn asked_again<K: Ending, W: Watch>(
     watch: W,
 ) -> (Result<Twice, Halt>, W)
     requires fits { IsTrue (K.fits kinds.old (newest_files core.old.history)) }
-    requires answer { IsAnswer K.Key.cmp (values_of (K.given (newest_files core.old.history))) K.make K.answer_over query.now budget first }
+    requires answer { IsAnswer K.Key.cmp (values_of (K.given (newest_files core.old.history))) K.make K.answers_over query.now budget first }
     requires done { (table : K.Key → ℕ → K.Value) → IsTable K.Key.cmp (values_of (K.given (newest_files core.old.history))) K.make table → IsDone first → (k : K.Key) (f : ℕ) → K.is_input k ≡ false → K.asks_over table query.now budget k f → IsUpToDate (record { cmp = K.Key.cmp; given = K.given; make = K.make; ranked = K.ranked; serves = K.serves }) (newest_files core.old.history) [] core.old.memos k f }
     ensures history { core.new.history ≡ core.old.history }
-    ensures first { IfOk result.0 (λ twice. IsAnswer K.Key.cmp (values_of (K.given (newest_files core.old.history))) K.make K.answer_over query.now budget twice.first) }
-    ensures second { IfOk result.0 (λ twice. IsAnswer K.Key.cmp (values_of (K.given (newest_files core.old.history))) K.make K.answer_over query.now budget twice.second) }
+    ensures first { IfOk result.0 (λ twice. IsAnswer K.Key.cmp (values_of (K.given (newest_files core.old.history))) K.make K.answers_over query.now budget twice.first) }
+    ensures second { IfOk result.0 (λ twice. IsAnswer K.Key.cmp (values_of (K.given (newest_files core.old.history))) K.make K.answers_over query.now budget twice.second) }
     ensures nothing { IfOk result.0 (λ twice. IsDone twice.first → twice.computes ≡ 0) }
     ensures gave { GaveMore (W.gave watch) (W.gave result.1) }
     ensures stopped { IfErr result.0 (HasStopped (above (length core.old.history.entries) (W.gave watch)) (above (length core.old.history.entries) (W.gave result.1))) }
@@ -118,8 +118,8 @@ pub fn answered_twice<K: Ending, W: Watch>(
 ) -> (Result<Twice, Halt>, W)
     requires fits { IsTrue (K.fits kinds.old (newest_files core.old.history)) }
     ensures history { core.new.history ≡ core.old.history }
-    ensures first { IfOk result.0 (λ twice. IsAnswer K.Key.cmp (values_of (K.given (newest_files core.old.history))) K.make K.answer_over query.now budget twice.first) }
-    ensures second { IfOk result.0 (λ twice. IsAnswer K.Key.cmp (values_of (K.given (newest_files core.old.history))) K.make K.answer_over query.now budget twice.second) }
+    ensures first { IfOk result.0 (λ twice. IsAnswer K.Key.cmp (values_of (K.given (newest_files core.old.history))) K.make K.answers_over query.now budget twice.first) }
+    ensures second { IfOk result.0 (λ twice. IsAnswer K.Key.cmp (values_of (K.given (newest_files core.old.history))) K.make K.answers_over query.now budget twice.second) }
     ensures nothing { IfOk result.0 (λ twice. IsDone twice.first → twice.computes ≡ 0) }
     ensures gave { GaveMore (W.gave watch) (W.gave result.1) }
     ensures stopped { IfErr result.0 (HasStopped (above (length core.old.history.entries) (W.gave watch)) (above (length core.old.history.entries) (W.gave result.1))) }

@@ -15,7 +15,7 @@ use Rattle.sve_rule.specs.Rules.{type_cast_judged, value_judged}
 use Rattle.sve_tree.specs.declared.expression.Expr.{Expr}
 use Rattle.sve_env.specs.Told.{Told}
 use Rattle.sve_form.specs.Tokens.{token_of}
-use Rattle.sve_measure.specs.Constants.{measured}
+use Rattle.sve_const.specs.Constants.{measured}
 use Rattle.sve_const.specs.Answers.{evaluated, note_at}
 use Rattle.sve_type_of.specs.Written.{target_of}
 use Rattle.sve_assigned.specs.declared.by_value.Assigned.{Assigned}

@@ -1,2 +1,3 @@
 pub mod Forms
 pub mod Assignments
+pub use Rattle.sve_type_of.specs.TypeOf

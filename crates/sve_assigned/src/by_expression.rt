@@ -9,12 +9,11 @@ use crate::by_value::{Assigned, Outcome, as_text, by_itself, is_text, signed_val
 use crate::form::Form;
 use std::alloc::Global;
 use sve_bytes::NoMemory;
-use sve_const::{ConstFault, eval};
+use sve_const::{ConstFault, eval, operand};
 use sve_diag::Note;
 use sve_env::Env;
 use sve_fault::{Fuel, Halted};
 use sve_form::token_of;
-use sve_measure::operand;
 use sve_tree::Expr;
 use sve_types::Value;
 

@@ -9,3 +9,4 @@ mod form;
 pub use by_expression::assigned;
 pub use by_value::{Assigned, converted};
 pub use form::{Form, Formed, form_of};
+pub use sve_type_of::{Typed, declared_type, type_of, with_unpacked};

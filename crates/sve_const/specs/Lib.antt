@@ -1,1 +1,2 @@
 pub mod Answers
+pub use Rattle.sve_measure.specs.Constants

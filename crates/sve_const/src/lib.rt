@@ -6,3 +6,4 @@ mod evaluation;
 mod lone;
 
 pub use evaluation::{ConstFault, eval, size_sign};
+pub use sve_measure::operand;

@@ -15,9 +15,9 @@ use Rattle.sve_known.specs.Packages.{Known}
 use Rattle.sve_contents.specs.declared.contents.Contents.{Contents}
 use Rattle.sve_scoped.specs.Known.{told_in}
 use Rattle.sve_used.specs.Used.{name_used}
-use Rattle.sve_declare.specs.Parameters.{with_parameters}
-use Rattle.sve_declare.specs.Typedefs.{with_typedef}
-use Rattle.sve_data.specs.Declarations.{with_data, with_nets, with_variables}
+use Rattle.sve_function.specs.Parameters.{with_parameters}
+use Rattle.sve_function.specs.Typedefs.{with_typedef}
+use Rattle.sve_function.specs.Declarations.{with_data, with_nets, with_variables}
 use Rattle.sve_local.specs.Steps.{stepped_in}
 use Rattle.sve_function.specs.Functions.{with_function}
 use Rattle.sve_count.specs.Declarations.{data_nodes, nets_nodes, parameters_nodes, typedef_nodes, variables_nodes}

@@ -6,9 +6,8 @@ ghost use Rattle.sve_counted_item.specs.Counted.{counted_data, counted_nets, cou
 use std::alloc::Global;
 use sve_contents::Contents;
 use sve_count::{count_data, count_nets, count_parameters, count_typedef, count_variables};
-use sve_data::{with_data, with_nets, with_variables};
-use sve_declare::{with_parameters, with_typedef};
 use sve_fault::{Fuel, Halted};
+use sve_function::{with_data, with_nets, with_parameters, with_typedef, with_variables};
 use sve_scoped::{Text, around};
 use sve_tree::{DataDeclaration, NetDeclaration, Parameters, Typedef, VariableDeclaration};
 

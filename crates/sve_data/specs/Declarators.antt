@@ -19,7 +19,7 @@ use Rattle.sve_contents.specs.Reading.{noted_all}
 use Rattle.sve_enumerated.specs.declared.passed.Passed.{Passed}
 use Rattle.sve_enumerated.specs.Passing.{passed_to}
 use Rattle.sve_enumerated.specs.Names.{separator}
-use Rattle.sve_assigned.specs.Assignments.{is_text}
+use Rattle.sve_scoped.specs.Assignments.{is_text}
 use Rattle.sve_scoped.specs.Said.{declared_at, out_if}
 use Rattle.sve_data.specs.declared.kind.DataKind.{DataKind}
 use Rattle.sve_data.specs.declared.kind.DataKind.TheVariants as is_kind

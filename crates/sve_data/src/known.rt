@@ -1,6 +1,6 @@
 //! Types of data where the text of a scope was read so far, whose nodes are not bounded.
 ghost use Rattle.std.specs.Prelude.{◌≡◌, IfOk};
-ghost use Rattle.sve_assigned.specs.Assignments.{is_text};
+ghost use Rattle.sve_scoped.specs.Assignments.{is_text};
 ghost use Rattle.sve_type_of.specs.TypeOf.{IsTyped};
 ghost use Rattle.sve_type_rule.specs.Outcomes.{scalar};
 ghost use Rattle.sve_scoped.specs.Known.{told_in};

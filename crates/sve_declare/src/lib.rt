@@ -9,4 +9,5 @@ pub use parameters::{
     Begun, Found, Meant, Settled, all_said, found_with, in_front, kept, names_declared, separator,
     with_parameters,
 };
+pub use sve_scoped::Text;
 pub use typedefs::with_typedef;

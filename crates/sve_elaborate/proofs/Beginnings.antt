@@ -5,7 +5,8 @@ use Rattle.sve_tree.specs.declared.token_word.Word.{Word}
 use Rattle.sve_spec.specs.declared.given.Given.{Given}
 use Rattle.sve_known.specs.Packages.{Known}
 use Rattle.sve_contents.specs.declared.contents.Contents.{Contents}
+use Rattle.sve_elaborate.specs.declared.extent.Extent.{Extent}
 use Rattle.sve_elaborate.specs.Bodies.{body_in}
 
-pub begun_by : (packages : List Known) (ws words : List Word) (values given : List Given) (scope c : Contents) (d : Definition) → words ≡ ws → given ≡ values → c ≡ scope → body_in packages ws values scope d ≡ body_in packages words given c d
-begun_by packages ws words values given scope c d text same found = rw (text, same, found) refl
+pub begun_by : (extent : Extent) (packages : List Known) (ws words : List Word) (values given : List Given) (scope c : Contents) (d : Definition) → words ≡ ws → given ≡ values → c ≡ scope → body_in extent packages ws values scope d ≡ body_in extent packages words given c d
+begun_by extent packages ws words values given scope c d text same found = rw (text, same, found) refl

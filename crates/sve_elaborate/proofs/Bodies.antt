@@ -11,9 +11,10 @@ use Rattle.sve_body.specs.Body.{body}
 use Rattle.sve_elaboration.specs.State.{Found}
 use Rattle.sve_elaboration.specs.Ends.{begun_body, facts_of}
 use Rattle.sve_elaboration.specs.Elaborating.{elaborating}
-use Rattle.sve_elaborate.specs.Bodies.{body_in}
+use Rattle.sve_elaborate.specs.declared.extent.Extent.{Extent}
+use Rattle.sve_elaborate.specs.Bodies.{body_in, items_to}
 
 -- where it has begun
-pub body_from : (packages : List Known) (ws : List Word) (given : List Given) (c : Contents) (d : Definition) (items : List Item) (s : Found) → items ≡ d.items.items → s ≡ begun_body packages ws given c d → body_in packages ws given c d ≡ and_then (body elaborating d.header items s) (λ t. Give (facts_of t))
+pub body_from : (extent : Extent) (packages : List Known) (ws : List Word) (given : List Given) (c : Contents) (d : Definition) (items : List Item) (s : Found) → items ≡ items_to extent d → s ≡ begun_body packages ws given c d → body_in extent packages ws given c d ≡ and_then (body elaborating d.header items s) (λ t. Give (facts_of t))
 unfolding body_in
-body_from packages ws given c d items s here is = ap (λ (l : List Item). and_then (body elaborating d.header l (begun_body packages ws given c d)) (λ u. Give (facts_of u))) (sym here) ∙ ap (λ t. and_then (body elaborating d.header items t) (λ u. Give (facts_of u))) (sym is)
+body_from extent packages ws given c d items s here is = ap (λ (l : List Item). and_then (body elaborating d.header l (begun_body packages ws given c d)) (λ u. Give (facts_of u))) (sym here) ∙ ap (λ t. and_then (body elaborating d.header items t) (λ u. Give (facts_of u))) (sym is)

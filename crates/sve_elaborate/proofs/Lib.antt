@@ -2,3 +2,4 @@ pub mod Leaving
 pub mod Beginnings
 pub mod Bodies
 pub mod Ended
+pub mod Asking

@@ -1,10 +1,11 @@
 -- The elaboration of a specialization, as a plan (IEEE 1800-2017, 3.12.1, 23.10, clauses 23, 26 and 27).
-use Rattle.std.specs.Prelude.{◌≡◌, ℕ, List, Option, Some, None, Result, Ok, Err}
+use Rattle.std.specs.Prelude.{◌≡◌, ℕ, List, [], Option, Some, None, Result, Ok, Err}
 use Rattle.sve_io.specs.declared.halt.Halt.{Halt}
 use Rattle.sve_io.specs.declared.halt.Halt.TheVariants as is_halt
 use Rattle.sve_table.specs.Tables.{item_of}
 use Rattle.sve_tree.specs.declared.element.Element.{Element}
 use Rattle.sve_tree.specs.declared.element.Definition.{Definition}
+use Rattle.sve_tree.specs.declared.item.Item.{Item}
 use Rattle.sve_tree.specs.declared.token_word.Word.{Word}
 use Rattle.sve_tree.specs.Elements.{element_definition}
 use Rattle.sve_index.specs.declared.def.Def.{Def}
@@ -14,6 +15,7 @@ use Rattle.sve_spec.specs.Specialization.{Specialization, specialization}
 use Rattle.sve_spec.specs.declared.given.Given.{Given}
 use Rattle.sve_facts.specs.declared.facts.Facts.{Facts}
 use Rattle.sve_facts.specs.Facts.{no_facts}
+use Rattle.sve_facts.specs.declared.facts.Port.{Port}
 use Rattle.sve_facts.specs.declared.bodies.Body.{Body}
 use Rattle.sve_facts.specs.Bodies.{BodyValue, Costs, CostsMore, body_value}
 use Rattle.sve_known.specs.Packages.{Known}
@@ -23,13 +25,15 @@ use Rattle.sve_function.specs.Readings.{readings}
 use Rattle.sve_plan.specs.declared.stop.Stop.{Stop}
 use Rattle.sve_plan.specs.declared.stop.Stop.TheVariants as is_stop
 use Rattle.sve_plan.specs.Plan.{Done, Give, Needs, Outcome, Over, Plan, and_then, ask}
-use Rattle.sve_look.specs.Questions.{ElementOf, IndexOf, Question, Reply}
+use Rattle.sve_look.specs.Questions.{ElementOf, IndexOf, NetAt, PackageOf, PortsOf, Question, Reply}
 use Rattle.sve_body.specs.Body.{body}
 use Rattle.sve_elaboration.specs.Ends.{begun_body, facts_of}
 use Rattle.sve_elaboration.specs.Elaborating.{elaborating}
 use Rattle.sve_unit_scope.specs.Elements.{ChunkElement, elements_before}
 use Rattle.sve_unit_scope.specs.Packages.{packages_named}
 use Rattle.sve_unit_scope.specs.Units.{unit_of}
+use Rattle.sve_elaborate.specs.declared.extent.Extent.{Extent}
+use Rattle.sve_elaborate.specs.declared.extent.Extent.TheVariants as is_extent
 
 -- the module or the interface, and what its parameters are given
 abbrev pub definition_of : Specialization → List ℕ
@@ -38,22 +42,28 @@ definition_of (specialization definition values faces) = definition
 abbrev pub values_of : Specialization → List Given
 values_of (specialization definition values faces) = values
 
--- A body in its scope: its header, then its items, and then what was found.
-unfoldable pub body_in : List Known → List Word → List Given → Contents → Definition → Plan Reply Facts
-body_in packages ws given c d = and_then (body elaborating d.header d.items.items (begun_body packages ws given c d)) (λ s. Give (facts_of s))
+-- the items behind the header that are gone over
+abbrev pub items_to : Extent → Definition → List Item
+items_to is_extent.Header d = []
+items_to is_extent.Whole d = d.items.items
 
--- The scope of the body stands inside of the scope of the compilation unit.
-abbrev pub within : List Known → Specialization → Def → List ChunkElement → Element → Definition → Plan Reply Facts
-within packages spec def es own d = body_in packages own.words.items (values_of spec) (entered (unit_of readings packages def.file def.chunk es own)) d
+-- A body in its scope: its header, then items of it, and then what was found.
+unfoldable pub body_in : Extent → List Known → List Word → List Given → Contents → Definition → Plan Reply Facts
+body_in extent packages ws given c d = and_then (body elaborating d.header (items_to extent d) (begun_body packages ws given c d)) (λ s. Give (facts_of s))
 
--- an element without module or interface has a body with nothing in it
-abbrev pub of_definition : List Known → Specialization → Def → List ChunkElement → Element → Option Definition → Plan Reply Facts
-of_definition packages spec def es own None = Give no_facts
-of_definition packages spec def es own (Some d) = within packages spec def es own d
+module _ (extent : Extent) where
+  -- The scope of the body stands inside of the scope of the compilation unit.
+  abbrev pub within : List Known → Specialization → Def → List ChunkElement → Element → Definition → Plan Reply Facts
+  within packages spec def es own d = body_in extent packages own.words.items (values_of spec) (entered (unit_of readings packages def.file def.chunk es own)) d
 
-module _ (index : Index) (spec : Specialization) (def : Def) where
+  -- an element without module or interface has a body with nothing in it
+  abbrev pub of_definition : List Known → Specialization → Def → List ChunkElement → Element → Option Definition → Plan Reply Facts
+  of_definition packages spec def es own None = Give no_facts
+  of_definition packages spec def es own (Some d) = within packages spec def es own d
+
+module _ (extent : Extent) (index : Index) (spec : Specialization) (def : Def) where
   abbrev pub of_tree : List ChunkElement → Element → Plan Reply Facts
-  of_tree es own = and_then (packages_named index es own) (λ packages. of_definition packages spec def es own (element_definition own))
+  of_tree es own = and_then (packages_named index es own) (λ packages. of_definition extent packages spec def es own (element_definition own))
 
   -- so has a chunk that is refused
   abbrev pub of_element : List ChunkElement → Option Element → Plan Reply Facts
@@ -65,12 +75,31 @@ module _ (index : Index) (spec : Specialization) (def : Def) where
   at_definition = and_then (elements_before def.file def.chunk) (λ es. and_then (ask (ElementOf def.file def.chunk)) (λ own. of_element es own))
 
 -- and so has a name that the index lacks
-abbrev pub at_place : Index → Specialization → Option Def → Plan Reply Facts
-at_place index spec None = Give no_facts
-at_place index spec (Some def) = at_definition index spec def
+abbrev pub at_place : Extent → Index → Specialization → Option Def → Plan Reply Facts
+at_place extent index spec None = Give no_facts
+at_place extent index spec (Some def) = at_definition extent index spec def
 
-unfoldable pub elaborated : Specialization → Plan Reply Facts
-elaborated spec = and_then (ask IndexOf) (λ index. at_place index spec (item_of def_name (definition_of spec) index.definitions))
+unfoldable pub elaborated_to : Extent → Specialization → Plan Reply Facts
+elaborated_to extent spec = and_then (ask IndexOf) (λ index. at_place extent index spec (item_of def_name (definition_of spec) index.definitions))
+
+-- the whole body
+abbrev pub elaborated : Specialization → Plan Reply Facts
+elaborated spec = elaborated_to is_extent.Whole spec
+
+-- The ports, which are those of the header: no item behind it is gone over (23.2.2).
+abbrev pub ports_of : Facts → List Port
+ports_of facts = facts.ports
+
+unfoldable pub header_ports : Specialization → Plan Reply (List Port)
+header_ports spec = and_then (elaborated_to is_extent.Header spec) (λ facts. Give (ports_of facts))
+
+-- no question of the ports of another specialization
+abbrev pub IsNoPorts : Question → Type 0
+IsNoPorts (ElementOf file chunk) = Unit {0}
+IsNoPorts (NetAt file chunk token) = Unit {0}
+IsNoPorts IndexOf = Unit {0}
+IsNoPorts (PackageOf name) = Unit {0}
+IsNoPorts (PortsOf other) = ⊥
 
 -- ---- as what a call gives
 
@@ -91,3 +120,10 @@ abbrev pub EndsAs : Result Facts Stop → ℕ → Result Body Halt → Type 0
 EndsAs end cost (Ok body) = end_value end cost ≡ Some (body_value body)
 EndsAs end cost (Err (is_halt.Stopped number)) = end ≡ Err (is_stop.Halted (is_halt.Stopped number))
 EndsAs end cost (Err is_halt.NoMemory) = Unit {0}
+
+-- A call that gives a value or halts, with all fuel that can be counted, gives what such a call came to. That the fuel is too little is not told apart from
+-- want of memory, since it never is.
+abbrev pub GivesAs : {X : Type 0} → Result X Stop → Result X Halt → Type 0
+GivesAs end (Ok x) = end ≡ Ok x
+GivesAs end (Err (is_halt.Stopped number)) = end ≡ Err (is_stop.Halted (is_halt.Stopped number))
+GivesAs end (Err is_halt.NoMemory) = Unit {0}

@@ -1,4 +1,4 @@
-//! The definition of a specialization, and its body.
+//! The definition of a specialization, and its body, as far as it is gone over.
 ghost use Rattle.std.specs.Prelude.{◌≡◌, Option, option_map};
 ghost use Rattle.sve_fault.specs.Counts.{IsFuel};
 ghost use Rattle.sve_table.specs.Tables.{item_of};
@@ -6,8 +6,9 @@ ghost use Rattle.sve_index.specs.Defs.{def_name};
 ghost use Rattle.sve_plan.specs.Follows.{Follows};
 ghost use Rattle.sve_look.specs.Questions.{element_in};
 ghost use Rattle.sve_tree.specs.Elements.{element_definition};
-ghost use Rattle.sve_elaborate.specs.Bodies.{at_definition, at_place, definition_of, elaborated, of_definition, of_element, of_tree, values_of, within};
+ghost use Rattle.sve_elaborate.specs.Bodies.{at_definition, at_place, definition_of, elaborated_to, of_definition, of_element, of_tree, values_of, within};
 
+use crate::extent::Extent;
 use crate::within::{body_in, scope_in_unit};
 use std::alloc::Global;
 use std::sync::Arc;
@@ -42,6 +43,7 @@ fn values_of(spec: &Spec) -> &[Given]
 /// The body of a definition, over the packages that are known and the elements in front of its own.
 fn within<W: Look>(
     alloc: Global,
+    extent: Extent,
     packages: &Table<Known>,
     spec: &Spec,
     def: &Def,
@@ -52,7 +54,7 @@ fn within<W: Look>(
     fuel: &mut Fuel,
 ) -> Result<Facts, Stop>
     requires { IsFuel fuel.old }
-    ensures { Follows (record { tells = W.tells; keeps = W.keeps; halted = W.halted; stops = W.stops; asked = W.asked }) world.old world.new fuel.old fuel.new (within packages.now spec.now def.now elements.now own.now definition.now) result }
+    ensures { Follows (record { tells = W.tells; keeps = W.keeps; halted = W.halted; stops = W.stops; asked = W.asked }) world.old world.new fuel.old fuel.new (within extent packages.now spec.now def.now elements.now own.now definition.now) result }
 {
     let contents = scope_in_unit(
         alloc, &Constants, packages, &def.file, def.chunk, elements, own,
@@ -63,6 +65,7 @@ fn within<W: Look>(
     };
     body_in(
         alloc,
+        extent,
         text,
         values_of(spec),
         contents,
@@ -75,6 +78,7 @@ fn within<W: Look>(
 /// The body of an element, by whether it has a module or an interface.
 fn of_definition<W: Look>(
     alloc: Global,
+    extent: Extent,
     packages: &Table<Known>,
     spec: &Spec,
     def: &Def,
@@ -84,12 +88,12 @@ fn of_definition<W: Look>(
     fuel: &mut Fuel,
 ) -> Result<Facts, Stop>
     requires { IsFuel fuel.old }
-    ensures { Follows (record { tells = W.tells; keeps = W.keeps; halted = W.halted; stops = W.stops; asked = W.asked }) world.old world.new fuel.old fuel.new (of_definition packages.now spec.now def.now elements.now own.now (element_definition own.now)) result }
+    ensures { Follows (record { tells = W.tells; keeps = W.keeps; halted = W.halted; stops = W.stops; asked = W.asked }) world.old world.new fuel.old fuel.new (of_definition extent packages.now spec.now def.now elements.now own.now (element_definition own.now)) result }
 {
     match own.definition() {
         Some(definition) => {
             within(
-                alloc, packages, spec, def, elements, own, definition, world, fuel,
+                alloc, extent, packages, spec, def, elements, own, definition, world, fuel,
             )
         }
         None => Ok(Facts::none(alloc)),
@@ -99,6 +103,7 @@ fn of_definition<W: Look>(
 /// The body of an element, whose packages are asked for first.
 fn of_tree<W: Look>(
     alloc: Global,
+    extent: Extent,
     index: &Index,
     spec: &Spec,
     def: &Def,
@@ -108,16 +113,19 @@ fn of_tree<W: Look>(
     fuel: &mut Fuel,
 ) -> Result<Facts, Stop>
     requires { IsFuel fuel.old }
-    ensures { Follows (record { tells = W.tells; keeps = W.keeps; halted = W.halted; stops = W.stops; asked = W.asked }) world.old world.new fuel.old fuel.new (of_tree index.now spec.now def.now elements.now own.now) result }
+    ensures { Follows (record { tells = W.tells; keeps = W.keeps; halted = W.halted; stops = W.stops; asked = W.asked }) world.old world.new fuel.old fuel.new (of_tree extent index.now spec.now def.now elements.now own.now) result }
 {
     let mut packages = Table::new(alloc);
     add_packages_named(alloc, index, elements, own, &mut packages, world, fuel)?;
-    of_definition(alloc, &packages, spec, def, elements, own, world, fuel)
+    of_definition(
+        alloc, extent, &packages, spec, def, elements, own, world, fuel,
+    )
 }
 
 /// The body of a chunk, by whether it has a tree.
 fn of_element<W: Look>(
     alloc: Global,
+    extent: Extent,
     index: &Index,
     spec: &Spec,
     def: &Def,
@@ -127,10 +135,10 @@ fn of_element<W: Look>(
     fuel: &mut Fuel,
 ) -> Result<Facts, Stop>
     requires { IsFuel fuel.old }
-    ensures { Follows (record { tells = W.tells; keeps = W.keeps; halted = W.halted; stops = W.stops; asked = W.asked }) world.old world.new fuel.old fuel.new (of_element index.now spec.now def.now elements.now (element_in own.now)) result }
+    ensures { Follows (record { tells = W.tells; keeps = W.keeps; halted = W.halted; stops = W.stops; asked = W.asked }) world.old world.new fuel.old fuel.new (of_element extent index.now spec.now def.now elements.now (element_in own.now)) result }
 {
     match own {
-        Some(own) => of_tree(alloc, index, spec, def, elements, own, world, fuel),
+        Some(own) => of_tree(alloc, extent, index, spec, def, elements, own, world, fuel),
         None => Ok(Facts::none(alloc)),
     }
 }
@@ -138,6 +146,7 @@ fn of_element<W: Look>(
 /// The body of the definition that stands there.
 fn at_definition<W: Look>(
     alloc: Global,
+    extent: Extent,
     index: &Index,
     spec: &Spec,
     def: &Def,
@@ -145,13 +154,14 @@ fn at_definition<W: Look>(
     fuel: &mut Fuel,
 ) -> Result<Facts, Stop>
     requires { IsFuel fuel.old }
-    ensures { Follows (record { tells = W.tells; keeps = W.keeps; halted = W.halted; stops = W.stops; asked = W.asked }) world.old world.new fuel.old fuel.new (at_definition index.now spec.now def.now) result }
+    ensures { Follows (record { tells = W.tells; keeps = W.keeps; halted = W.halted; stops = W.stops; asked = W.asked }) world.old world.new fuel.old fuel.new (at_definition extent index.now spec.now def.now) result }
 {
     let mut elements = Vec::new(alloc);
     elements_before(&def.file, def.chunk, &mut elements, world, fuel)?;
     let own = ask_element(&def.file, def.chunk, world, fuel)?;
     of_element(
         alloc,
+        extent,
         index,
         spec,
         def,
@@ -172,30 +182,32 @@ fn place_of<'a>(index: &'a Index, spec: &Spec) -> Option<&'a Def>
 /// The body of a specialization, by where its definition stands.
 fn at_place<W: Look>(
     alloc: Global,
+    extent: Extent,
     index: &Index,
     spec: &Spec,
     world: &mut W,
     fuel: &mut Fuel,
 ) -> Result<Facts, Stop>
     requires { IsFuel fuel.old }
-    ensures { Follows (record { tells = W.tells; keeps = W.keeps; halted = W.halted; stops = W.stops; asked = W.asked }) world.old world.new fuel.old fuel.new (at_place index.now spec.now (item_of def_name (definition_of spec.now) index.now.definitions)) result }
+    ensures { Follows (record { tells = W.tells; keeps = W.keeps; halted = W.halted; stops = W.stops; asked = W.asked }) world.old world.new fuel.old fuel.new (at_place extent index.now spec.now (item_of def_name (definition_of spec.now) index.now.definitions)) result }
 {
     match place_of(index, spec) {
-        Some(def) => at_definition(alloc, index, spec, def, world, fuel),
+        Some(def) => at_definition(alloc, extent, index, spec, def, world, fuel),
         None => Ok(Facts::none(alloc)),
     }
 }
 
-/// What is found of the body of a specialization.
-pub(crate) fn elaborated<W: Look>(
+/// What is found of a specialization in so much of its text.
+pub(crate) fn elaborated_to<W: Look>(
     alloc: Global,
+    extent: Extent,
     spec: &Spec,
     world: &mut W,
     fuel: &mut Fuel,
 ) -> Result<Facts, Stop>
     requires { IsFuel fuel.old }
-    ensures { Follows (record { tells = W.tells; keeps = W.keeps; halted = W.halted; stops = W.stops; asked = W.asked }) world.old world.new fuel.old fuel.new (elaborated spec.now) result }
+    ensures { Follows (record { tells = W.tells; keeps = W.keeps; halted = W.halted; stops = W.stops; asked = W.asked }) world.old world.new fuel.old fuel.new (elaborated_to extent spec.now) result }
 {
     let index = ask_index(world, fuel)?;
-    at_place(alloc, &index, spec, world, fuel)
+    at_place(alloc, extent, &index, spec, world, fuel)
 }

@@ -6,7 +6,8 @@ ghost use Rattle.sve_look.specs.Questions.{Question, Reply};
 ghost use Rattle.sve_facts.specs.Bodies.{CostsWithin, body_value};
 ghost use Rattle.sve_elaborate.specs.Bodies.{EndsAs, elaborated, outcome_value};
 
-use crate::definitions::elaborated;
+use crate::definitions::elaborated_to;
+use crate::extent::Extent;
 use std::alloc::Global;
 use std::sync::Arc;
 use sve_facts::{Body, Facts};
@@ -66,6 +67,6 @@ pub fn elaborate<W: Look>(
         used: 0,
         most: most as u64,
     };
-    let end = elaborated(alloc, spec, world, &mut fuel);
+    let end = elaborated_to(alloc, Extent::Whole, spec, world, &mut fuel);
     body_of(alloc, end, &fuel)
 }

@@ -1,7 +1,8 @@
 //! What holds of the elaboration of every specialization. The clause of each function is a law, and its body does nothing.
 ghost use Rattle.sve_spec.specs.Specialization.{Specialization};
+ghost use Rattle.sve_plan.specs.Plan.{AsksOnly};
 ghost use Rattle.sve_plan.specs.Laws.{AskedDecide, CostIsExact, LessIsOverOrSame, SettledAlike};
-ghost use Rattle.sve_elaborate.specs.Bodies.{elaborated};
+ghost use Rattle.sve_elaborate.specs.Bodies.{IsNoPorts, elaborated, header_ports};
 
 /// A body that is done with a cost is done alike with every fuel from that cost on, and costs too much for every fuel below it.
 pub fn bodies_cost_exactly()
@@ -21,4 +22,9 @@ pub fn bodies_settle_alike()
 /// What is told of the questions that a body asks decides what it comes to and what it asks.
 pub fn bodies_by_what_they_ask()
     ensures { (spec : Specialization) → AskedDecide (elaborated spec) }
+{}
+
+/// The ports of a specialization ask for no ports.
+pub fn headers_ask_for_no_ports()
+    ensures { (spec : Specialization) → AsksOnly IsNoPorts (header_ports spec) }
 {}

@@ -6,6 +6,7 @@ ghost use Rattle.sve_contents.specs.Nested.{entered};
 ghost use Rattle.sve_unit_scope.specs.Units.{unit_of};
 ghost use Rattle.sve_elaborate.specs.Bodies.{body_in};
 
+use crate::extent::Extent;
 use std::alloc::Global;
 use sve_body_whole::body;
 use sve_bytes::{Name, NoMemory};
@@ -38,9 +39,10 @@ pub(crate) fn scope_in_unit<T: Typing>(
     unit.entered(alloc)
 }
 
-/// What is found of a body whose text begins in this scope.
+/// What is found of a body whose text begins in this scope, as far as it is gone over.
 pub(crate) fn body_in<W: Look>(
     alloc: Global,
+    extent: Extent,
     text: Text,
     given: &[Given],
     contents: Contents,
@@ -49,14 +51,14 @@ pub(crate) fn body_in<W: Look>(
     fuel: &mut Fuel,
 ) -> Result<Facts, Stop>
     requires { IsFuel fuel.old }
-    ensures { Follows (record { tells = W.tells; keeps = W.keeps; halted = W.halted; stops = W.stops; asked = W.asked }) world.old world.new fuel.old fuel.new (body_in text.entry.packages.now text.entry.words.now given.now contents definition.now) result }
+    ensures { Follows (record { tells = W.tells; keeps = W.keeps; halted = W.halted; stops = W.stops; asked = W.asked }) world.old world.new fuel.old fuel.new (body_in extent text.entry.packages.now text.entry.words.now given.now contents definition.now) result }
 {
     let mut work = Elaboration::begun(alloc, text, given, contents, definition)?;
     body(
         alloc,
         &mut work,
         &definition.header,
-        &definition.items,
+        extent.items(definition),
         world,
         fuel,
     )?;

@@ -22,7 +22,7 @@ use Rattle.sve_type_rule.specs.Outcomes.{Outcome, plain}
 use Rattle.sve_type_rule.specs.Names.{Named, named, no_names, automatic_after, explicit_after}
 use Rattle.sve_env.specs.Told.{Told}
 use Rattle.sve_form.specs.Tokens.{token_of}
-use Rattle.sve_measure.specs.Constants.{measured}
+use Rattle.sve_simple_type.specs.Constants.{measured}
 use Rattle.sve_enum_type.specs.Earlier.{told_among, last_value, with_new}
 use Rattle.sve_enum_type.specs.declared.earlier.Earlier.{Earlier}
 use Rattle.sve_enum_type.specs.declared.enumeration.Listed.{Listed}

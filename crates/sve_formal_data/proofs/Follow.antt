@@ -14,7 +14,8 @@ use Rattle.sve_enumerated.specs.declared.passed.Passed.{Passed}
 use Rattle.sve_enumerated.specs.Names.{separator}
 use Rattle.sve_data.specs.declared.kind.DataKind.TheVariants as is_kind
 use Rattle.sve_data.specs.Declarations.{declared_names}
-use Rattle.sve_data.proofs.Follow.{Keeps, SameIn, declarator_alike, declarator_keeps, declared_keep}
+pub use Rattle.sve_data.proofs.Follow.{Keeps, SameIn}
+use Rattle.sve_data.proofs.Follow.{declarator_alike, declarator_keeps, declared_keep}
 use Rattle.sve_formal_data.specs.declared.formals.Typing.{Typing}
 use Rattle.sve_formal_data.specs.Formals.{formal_after, formal_over, formal_typed, formals_behind, with_formals}
 

@@ -1,1 +1,2 @@
 pub mod Formals
+pub use Rattle.sve_data.specs.Declarations

@@ -1,15 +1,14 @@
 //! Formal arguments of functions.
 ghost use Rattle.std.specs.Prelude.{◌≡◌, IfOk};
 ghost use Rattle.sve_type_of.specs.TypeOf.{IsTyped};
-ghost use Rattle.sve_scoped.specs.Known.{told_in};
+ghost use Rattle.sve_data.specs.Known.{told_in};
 ghost use Rattle.sve_formal_data.specs.Formals.{formal_after, formal_typed, formals_behind, is_left_out, with_formals};
 
 use std::alloc::Global;
 use sve_bytes::{List, NoMemory};
 use sve_contents::Contents;
-use sve_data::{DataKind, declarator_after, declared_names, scalar, separator};
+use sve_data::{DataKind, Text, declarator_after, declared_in, declared_names, scalar, separator};
 use sve_enumerated::Passed;
-use sve_scoped::{Text, declared_in};
 use sve_tree::{DeclaredType, Formal, Formals};
 use sve_type_of::Typed;
 use sve_types::Ty;

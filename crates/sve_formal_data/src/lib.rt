@@ -5,3 +5,4 @@
 mod formals;
 
 pub use formals::with_formals;
+pub use sve_data::{with_data, with_nets, with_variables};

@@ -1,16 +1,17 @@
--- A table of units: all are units of the same files, and each that was added is found.
-use Rattle.std.proofs.Common.{◌≡◌, true, false, List, [], ◌∷◌, ◌++◌, Option, Some, None, is_some, nat_eq, ℕ, ◌+◌, ◌<◌, take, get_or, length, add-one, refl, sym, ap, subst, ◌∙◌}
+-- A table of units: all are units of the same files, each that was added is found, and their names are those of the files.
+use Rattle.std.proofs.Common.{◌≡◌, true, false, List, [], ◌∷◌, ◌++◌, Option, Some, None, is_some, nat_eq, ℕ, ◌+◌, ◌<◌, take, drop, map, cond, get_or, length, add-one, refl, sym, ap, subst, ◌∙◌}
 use Rattle.std.specs.List.{AllByRecursion}
 use Rattle.std.specs.Option.{option_or}
 use Rattle.std.specs.Cmp.Lexicographic.{pointwise}
 use Rattle.std.proofs.Math.Seq.{take-suc}
 use Rattle.std.proofs.lemmas.Cmp.{nat_list_eq_equiv}
-use Rattle.sve_table.specs.Tables.{item_of, with_item}
+use Rattle.std.proofs.lemmas.List.{map-append}
+use Rattle.sve_table.specs.Tables.{item_of, with_item, with_items}
 use Rattle.sve_table.proofs.Entries.{with_item-present, with_item-absent}
 use Rattle.sve_table.proofs.Added.{same_name, item_of-with_items}
 use Rattle.sve_text.specs.Rows.{Row}
 use Rattle.sve_front.specs.declared.unit.Unit.{Unit}
-use Rattle.sve_front.specs.Readings.{IsUnitOf, AreUnitsOf, Has, file_of}
+use Rattle.sve_front.specs.Readings.{IsUnitOf, AreUnitsOf, AreCut, Has, file_of, itself}
 
 pub all_append : {X : Type 0} (P : X → Type 0) (xs ys : List X) → AllByRecursion P xs → AllByRecursion P ys → AllByRecursion P (xs ++ ys)
 all_append P [] ys hx hy = hy
@@ -49,17 +50,19 @@ pub all_have : (units : List Unit) (u : Unit) (names : List (List ℕ)) → AllB
 all_have units u [] h = tt
 all_have units u (name ∷ names) h = (still_has units u name h.0, all_have units u names h.1)
 
--- what is found is a unit of that name
-pub unit_found : (rows : List Row) (units : List Unit) (name : List ℕ) (u : Unit) → AreUnitsOf rows units → item_of file_of name units ≡ Some u → IsUnitOf rows u × (u.file ≡ name)
-unit_found rows [] name u hs is = cc
-unit_found rows (v ∷ units) name u hs is =
-    elim (pointwise nat_eq name (file_of v)) as (λ t. pointwise nat_eq name (file_of v) ≡ t → IsUnitOf rows u × (u.file ≡ name)) [
-      | true ↦ λ e. let here : v ≡ u = (let s : item_of file_of name (v ∷ units) ≡ Some v = rw e refl in cc (s, is)) in (subst (IsUnitOf rows) here hs.0, ap (λ (w : Unit). w.file) (sym here) ∙ sym (same_name name (file_of v) e))
-      | false ↦ λ e. let later : item_of file_of name units ≡ Some u = (let s : item_of file_of name (v ∷ units) ≡ item_of file_of name units = rw e refl in sym s ∙ is) in unit_found rows units name u hs.1 later
+-- what is found has that name, and what all have
+pub unit_found : (P : Unit → Type 0) (units : List Unit) (name : List ℕ) (u : Unit) → AllByRecursion P units → item_of file_of name units ≡ Some u → P u × (u.file ≡ name)
+unit_found P [] name u hs is = cc
+unit_found P (v ∷ units) name u hs is =
+    elim (pointwise nat_eq name (file_of v)) as (λ t. pointwise nat_eq name (file_of v) ≡ t → P u × (u.file ≡ name)) [
+      | true ↦ λ e. let here : v ≡ u = (let s : item_of file_of name (v ∷ units) ≡ Some v = rw e refl in cc (s, is)) in (subst P here hs.0, ap (λ (w : Unit). w.file) (sym here) ∙ sym (same_name name (file_of v) e))
+      | false ↦ λ e. let later : item_of file_of name units ≡ Some u = (let s : item_of file_of name (v ∷ units) ≡ item_of file_of name units = rw e refl in sym s ∙ is) in unit_found P units name u hs.1 later
     ] refl
 
-pub nothing_found : (units : List Unit) (name : List ℕ) → Has units name → item_of file_of name units ≡ None → ⊥
-nothing_found units name has is = cc (has, is)
+-- units of files are cut
+pub are_cut : (rows : List Row) (units : List Unit) → AreUnitsOf rows units → AreCut units
+are_cut rows [] hs = tt
+are_cut rows (u ∷ units) hs = (record { chunks = hs.0.chunks; few = hs.0.few }, are_cut rows units hs.1)
 
 take_next : (names : List (List ℕ)) (i : ℕ) (name : List ℕ) → i < length names → name ≡ get_or names i name → take (i + 1) names ≡ take i names ++ name ∷ []
 take_next names i name h is = ap (λ (k : ℕ). take k names) (add-one i) ∙ take-suc names i name h ∙ ap (λ (n : List ℕ). take i names ++ n ∷ []) (sym is)
@@ -70,3 +73,27 @@ pub kept_next : (units : List Unit) (u : Unit) (names : List (List ℕ)) (i : �
 kept_next units u names i name h is file kept =
     subst (λ (ns : List (List ℕ)). AllByRecursion (Has (with_item file_of units u)) ns) (sym (take_next names i name h is))
     (all_append (Has (with_item file_of units u)) (take i names) (name ∷ []) (all_have units u (take i names) kept) (subst (Has (with_item file_of units u)) file (has_added units u), tt))
+
+-- the names of units, found as the units are
+named : (units : List Unit) (name : List ℕ) → is_some (item_of itself name (map file_of units)) ≡ is_some (item_of file_of name units)
+named [] name = refl
+named (u ∷ units) name =
+    elim (pointwise nat_eq name (file_of u)) as (λ t. is_some (cond t (Some (file_of u)) (item_of itself name (map file_of units))) ≡ is_some (cond t (Some u) (item_of file_of name units))) [
+      | true ↦ refl
+      | false ↦ named units name
+    ]
+
+names_after : (units : List Unit) (u : Unit) → map file_of (with_item file_of units u) ≡ with_item itself (map file_of units) (file_of u)
+names_after units u =
+    elim (is_some (item_of file_of (file_of u) units)) as (λ v. is_some (item_of file_of (file_of u) units) ≡ v → map file_of (with_item file_of units u) ≡ with_item itself (map file_of units) (file_of u)) [
+      | true ↦ λ e. ap (map file_of) (with_item-present file_of units u e) ∙ sym (with_item-present itself (map file_of units) (file_of u) (named units (file_of u) ∙ e))
+      | false ↦ λ e. ap (map file_of) (with_item-absent file_of units u e) ∙ map-append file_of units (u ∷ []) ∙ sym (with_item-absent itself (map file_of units) (file_of u) (named units (file_of u) ∙ e))
+    ] refl
+
+-- the names so far, then the others, are all names
+pub names_go_on : (names : List (List ℕ)) (i : ℕ) (name : List ℕ) (units : List Unit) (u : Unit) (whole : List (List ℕ)) → drop i names ≡ name ∷ drop (i + 1) names → u.file ≡ name
+    → with_items itself (map file_of units) (drop i names) ≡ whole → with_items itself (map file_of (with_item file_of units u)) (drop (i + 1) names) ≡ whole
+names_go_on names i name units u whole e file so_far =
+    ap (λ (ns : List (List ℕ)). with_items itself ns (drop (i + 1) names)) (names_after units u ∙ ap (λ (n : List ℕ). with_item itself (map file_of units) n) file)
+    ∙ sym (ap (λ (ns : List (List ℕ)). with_items itself (map file_of units) ns) e)
+    ∙ so_far

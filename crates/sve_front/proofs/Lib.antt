@@ -2,6 +2,9 @@ mod Counts
 mod Names
 pub mod Parts
 mod Additions
-mod Held
+pub mod Held
+mod Trees
+mod Directives
+mod Places
 mod Stops
 mod NoteFiles

@@ -1,6 +1,9 @@
 pub mod Expansions
+pub mod Nets
 pub mod Units
 pub mod Elements
 pub mod Diagnostics
 pub mod Fronts
+pub mod Trees
 pub mod Readings
+pub mod Places

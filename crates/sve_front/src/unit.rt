@@ -1,28 +1,46 @@
-//! The units of a revision: their names, and their tokens by chunks.
+//! The units of a revision: their names, and what they are read as.
 ghost use Rattle.std.specs.Prelude.{◌≡◌, ◌≤◌, ◌++◌, ◌∷◌, [], length, IfOk, OnOk};
 ghost use Rattle.std.specs.List.{filter, slice_index_or};
 ghost use Rattle.sve_unit.specs.Chunks.{chunks_of, parts};
 ghost use Rattle.sve_front.specs.Units.{is_unit_name, unit_names, file_end};
 
 use std::alloc::Global;
-use sve_bytes::{List, Name, NoMemory};
+use std::sync::Arc;
+use sve_bytes::{List, Name, NetType, NoMemory};
 use sve_diag::Place;
 use sve_table::Named;
 use sve_text::Files;
 use sve_token::Token;
+use sve_tree::Element;
 use sve_unit::Chunk;
 
-/// The tokens of a unit, by chunks.
-#[derive(Drop)]
-pub(crate) struct Unit {
+/// A unit of a revision, read from its text to its trees.
+pub struct Unit {
     /// The name of the file.
-    pub(crate) file: Name,
+    pub file: Name,
     /// The end of the file.
-    pub(crate) end: Place,
+    pub end: Place,
     /// Its tokens.
-    pub(crate) tokens: List<Token>,
+    pub tokens: List<Token>,
     /// Its chunks, in order.
-    pub(crate) chunks: List<Chunk>,
+    pub chunks: List<Chunk>,
+    /// The net type in force where each of its tokens begins (IEEE 1800-2017, 22.8).
+    pub nets: List<NetType>,
+    /// The tree of each of its chunks, in order, or none, where the grammar refuses the chunk.
+    pub trees: List<Option<Arc<Element>>>,
+}
+
+impl Drop for Unit {
+    fn drop(self) {
+        let Unit {
+            file: _,
+            end: _,
+            tokens: _,
+            chunks: _,
+            nets: _,
+            trees: _,
+        } = self;
+    }
 }
 
 impl Named for Unit {

@@ -32,7 +32,7 @@ use Rattle.sve_contents.specs.declared.contents.Contents.{Contents}
 use Rattle.sve_contents.specs.Nested.{entered, left, left_to}
 use Rattle.sve_contents.specs.Reading.{empty_contents, noted_all}
 use Rattle.sve_contents.specs.Uses.{named_use, said_if, with_plain, with_use, wrong_in}
-use Rattle.sve_assigned.specs.Assignments.{is_text}
+use Rattle.sve_scoped.specs.Assignments.{is_text}
 use Rattle.sve_type_rule.specs.Outcomes.{Outcome}
 use Rattle.sve_type_of.specs.TypeOf.{declared, notes_in}
 use Rattle.sve_enumerated.specs.declared.passed.Passed.{Passed}
@@ -45,10 +45,9 @@ use Rattle.sve_scoped.specs.Said.{out_if}
 use Rattle.sve_declare.specs.Alike.{TellAlike}
 use Rattle.sve_declare.proofs.Alike.{imports_alike, imports_hold, known_in, name_alike, with_parameters_alike, with_parameters_hold, with_typedef_alike, with_typedef_holds}
 use Rattle.sve_declare.proofs.Holding.{AreNamed, Holds, of_declared, of_out_if, of_passed, of_ref, of_said, of_use}
-use Rattle.sve_used.specs.Used.{dotted_use, hierarchical, name_used}
-use Rattle.sve_data.proofs.Follow.{Keeps, SameIn}
+use Rattle.sve_local.specs.Used.{dotted_use, hierarchical, name_used}
 use Rattle.sve_formal_data.specs.Formals.{with_formals}
-use Rattle.sve_formal_data.proofs.Follow.{formals_alike, formals_keep}
+use Rattle.sve_formal_data.proofs.Follow.{Keeps, SameIn, formals_alike, formals_keep}
 use Rattle.sve_local.specs.Steps.{stepped}
 use Rattle.sve_local.proofs.Follow.{KeepsToo, steps_alike, steps_keep}
 use Rattle.sve_function.specs.Functions.{body_over, function_name, names_of_result, own_variable, result_in, result_over, with_function, with_result_type}

@@ -22,7 +22,7 @@ use Rattle.sve_contents.specs.Reading.{noted_all}
 use Rattle.sve_enumerated.specs.declared.passed.Passed.{Passed}
 use Rattle.sve_enumerated.specs.Passing.{passed_to}
 use Rattle.sve_enumerated.specs.Types.{named_in_ref}
-use Rattle.sve_assigned.specs.Assignments.{is_text}
+use Rattle.sve_scoped.specs.Assignments.{is_text}
 use Rattle.sve_scoped.specs.Said.{declared_at, out_if}
 use Rattle.sve_formal_data.specs.Formals.{with_formals}
 use Rattle.sve_local.specs.Steps.{stepped}

@@ -3,7 +3,7 @@ use Rattle.sve_package.specs.Readings.{Readings}
 use Rattle.sve_scoped.specs.Known.{told_in}
 use Rattle.sve_declare.specs.Parameters.{with_parameters}
 use Rattle.sve_declare.specs.Typedefs.{with_typedef}
-use Rattle.sve_used.specs.Used.{name_used}
+use Rattle.sve_local.specs.Used.{name_used}
 use Rattle.sve_function.specs.Functions.{with_function}
 
 abbrev pub readings : Readings

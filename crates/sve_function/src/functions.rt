@@ -1,8 +1,8 @@
 //! Functions in a scope, and their bodies.
 ghost use Rattle.std.specs.Prelude.{◌≡◌, IfOk};
-ghost use Rattle.sve_assigned.specs.Assignments.{is_text};
+ghost use Rattle.sve_scoped.specs.Assignments.{is_text};
 ghost use Rattle.sve_scoped.specs.Known.{told_in};
-ghost use Rattle.sve_used.specs.Used.{name_used};
+ghost use Rattle.sve_local.specs.Used.{name_used};
 ghost use Rattle.sve_function.specs.Functions.{body_over, function_name, names_of_result, own_variable, with_function};
 ghost use Rattle.sve_function.specs.Headed.{with_head};
 ghost use Rattle.sve_tree.specs.declared.statement.FunctionResult.TheVariants as is_result;

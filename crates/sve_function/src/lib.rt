@@ -7,4 +7,6 @@ mod laws;
 mod typing;
 
 pub use laws::facts_follow;
+pub use sve_declare::{with_parameters, with_typedef};
+pub use sve_formal_data::{with_data, with_nets, with_variables};
 pub use typing::Constants;

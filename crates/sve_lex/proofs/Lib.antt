@@ -6,6 +6,7 @@ mod OneList
 pub mod Pieces
 pub mod Runs
 mod Spots
+mod Starts
 pub mod Strings
 mod Tables
 mod TokenSteps

@@ -3,7 +3,7 @@ use Rattle.std.proofs.Common.{◌≡◌, ℕ, zero, suc, ◌+◌, ◌<◌, List,
 use Rattle.std.specs.List.{prefix_len}
 use Rattle.sve_lex.specs.Longest.{Form, after, longest, or_here}
 use Rattle.sve_lex.proofs.Longest.{longest_cons, longest_end, longest_same, longest_here}
-use Rattle.sve_token.specs.Operators.{operators, operator_of, entries_after}
+use Rattle.sve_token.specs.Operators.{operators, entries_after}
 use Rattle.sve_token.specs.declared.kind.Kind.{Kind}
 use Rattle.sve_token.specs.declared.kind.Kind.TheVariants.{Based}
 use Rattle.sve_bytes.specs.Bytes.{is_white_space}

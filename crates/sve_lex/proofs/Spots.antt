@@ -2,7 +2,7 @@
 use Rattle.std.proofs.Common.{◌≡◌, ℕ, zero, suc, ◌+◌, ◌-◌, ◌<◌, ◌≤◌, Bool, true, false, ◌&&◌, cond, nat_eq, List, [], ◌∷◌, length, drop, get_or, refl, sym, ap, ◌∙◌, arith, sub-one, add-one, ne_eqb, eq-eqb}
 use Rattle.std.specs.Str.{bytes_eq}
 use Rattle.std.proofs.Math.Seq.{drop-cons}
-use Rattle.sve_origin.specs.Origins.{Origin, Spot, next, next_in, moved, origin_of}
+use Rattle.sve_origin.specs.Origins.{Origin, Spot, next, moved, origin_of}
 use Rattle.sve_origin.specs.declared.segment.Segment.{Segment}
 use Rattle.sve_lex.specs.Tokens.{follows}
 use Rattle.sve_lex.specs.Spots.{file_at, steps, goes_on_for, IsBefore}

@@ -1,8 +1,7 @@
 -- The tokens of the front of a text, and those of what comes after it.
-use Rattle.std.proofs.Common.{◌≡◌, ℕ, zero, suc, ◌+◌, ◌-◌, ◌<◌, ◌≤◌, ◌^◌, Bool, true, false, ◌&&◌, List, [], ◌∷◌, ◌++◌, length, take, drop, map, refl, sym, ap, ◌∙◌, arith, append_assoc, subst, sub-one}
+use Rattle.std.proofs.Common.{◌≡◌, ℕ, zero, suc, ◌+◌, ◌-◌, ◌<◌, ◌≤◌, ◌^◌, Bool, ◌&&◌, List, [], ◌∷◌, ◌++◌, length, take, drop, refl, sym, ap, ◌∙◌, arith, append_assoc, subst, sub-one}
 use Rattle.std.specs.List.{All}
 use Rattle.std.proofs.lemmas.List.{length-take-le, drop_all, take_all}
-use Rattle.sve_diag.specs.declared.diag.Place.{Place}
 use Rattle.sve_origin.specs.Origins.{Spot, Cell, next, cells, cells_from, values, HasOffset}
 use Rattle.sve_origin.specs.Segments.{Cover}
 use Rattle.sve_origin.specs.declared.segment.Segment.{Segment}
@@ -17,7 +16,7 @@ use Rattle.sve_lex.specs.Tokens.{follows, goes_on_from, token_at, place_of, toke
 use Rattle.sve_lex.proofs.Pieces.{piece_within}
 use Rattle.sve_lex.proofs.Cutting.{pieces_end, pieces_next}
 
-values_cells : (p : Spot) (bs : List ℕ) → values (cells_from p bs) ≡ bs
+pub values_cells : (p : Spot) (bs : List ℕ) → values (cells_from p bs) ≡ bs
 values_cells p [] = refl
 values_cells p (b ∷ bs) = ap (λ t. b ∷ t) (values_cells (next p) bs)
 
@@ -74,7 +73,7 @@ push_step out new t total p q text more w kind n i a r l f k g e h same =
     ∙ sym (tokens_next p text w n l e ∙ ap (λ x. token_of x (take n (cells_from p text)) ++ tokens (cells_from (steps n p) (drop n text))) g ∙ ap (λ x. x ++ tokens (cells_from (steps n p) (drop n text))) (token_is kind p text n f k)))
     ∙ same
 
-is_separator : (w : Class) → ((kind : Kind) → w ≡ Lexeme kind → ⊥) → w ≡ Separator
+pub is_separator : (w : Class) → ((kind : Kind) → w ≡ Lexeme kind → ⊥) → w ≡ Separator
 is_separator Separator h = refl
 is_separator (Lexeme kind) h = absurd (h kind refl)
 

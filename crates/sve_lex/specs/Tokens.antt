@@ -1,5 +1,5 @@
 -- The tokens of an expanded text.
-use Rattle.std.specs.Prelude.{ℕ, ◌+◌, Bool, true, ◌&&◌, ◌==◌, nat_lt, if◌then◌else◌, List, [], ◌∷◌, ◌++◌, length, take, drop}
+use Rattle.std.specs.Prelude.{ℕ, ◌+◌, ◌≤◌, Bool, true, ◌&&◌, ◌==◌, nat_lt, if◌then◌else◌, List, [], ◌∷◌, ◌++◌, length, take, drop}
 use Rattle.std.specs.Str.{bytes_eq}
 use Rattle.sve_diag.specs.declared.diag.Place.{Place}
 use Rattle.sve_origin.specs.Origins.{Origin, Cell, values}
@@ -47,3 +47,22 @@ cut (p ∷ ps) cs = token_of p.0 (take (length p.1) cs) ++ cut ps (drop (length 
 -- the bytes are cut into their pieces, and the separators are left out
 unfoldable pub tokens : List Cell → List Token
 tokens cs = cut (pieces (values cs)) cs
+
+-- where the token of a piece begins, and nothing for a separator
+abbrev pub start_of : ℕ → Class → List ℕ
+start_of at Separator = []
+start_of at (Lexeme kind) = at ∷ []
+
+-- the first of these pieces stands behind so many bytes
+abbrev pub starts_from : ℕ → List Piece → List ℕ
+starts_from at [] = []
+starts_from at (p ∷ ps) = start_of at p.0 ++ starts_from (at + length p.1) ps
+
+-- of each token, in order, how many bytes stand before it
+unfoldable pub starts : List Cell → List ℕ
+starts cs = starts_from 0 (pieces (values cs))
+
+-- none is below this number, nor below the one before it
+abbrev pub Rise : ℕ → List ℕ → Type 0
+Rise least [] = Unit {0}
+Rise least (n ∷ ns) = (least ≤ n) × Rise n ns

@@ -1,7 +1,7 @@
 ghost use Rattle.std.specs.Prelude.{◌≡◌, ℕ, ◌+◌, ◌<◌, ◌≤◌, ◌^◌, length, take, IfOk};
 ghost use Rattle.std.specs.List.{All};
 ghost use Rattle.sve_origin.specs.Origins.{cells, HasOffset};
-ghost use Rattle.sve_lex.specs.Tokens.{tokens, token_at, long_text};
+ghost use Rattle.sve_lex.specs.Tokens.{tokens, token_at, long_text, starts, Rise};
 
 use crate::Class;
 use crate::cursor::{start, walk};
@@ -71,14 +71,25 @@ fn token(
     })
 }
 
-/// The tokens of bytes whose origins the segments give.
-fn tokens_of(alloc: Global, segments: &[Segment], bytes: &[u8]) -> Result<Vec<Token>, NoMemory>
+/// The tokens of an expanded text, and where they begin in it.
+#[derive(Drop)]
+pub struct Lexed {
+    /// The tokens, in their order.
+    pub tokens: List<Token>,
+    /// How many bytes of the expanded text stand before each of them.
+    pub starts: List<u32>,
+}
+
+/// The tokens of bytes whose origins the segments give, and where each begins.
+fn tokens_of(alloc: Global, segments: &[Segment], bytes: &[u8]) -> Result<Lexed, NoMemory>
     requires small { length bytes.now < 2 ^ 32 }
     requires some { 0 < length bytes.now → 0 < length segments.now }
     requires offsets { All HasOffset (cells segments.now bytes.now) }
-    ensures { IfOk result (λ v. v.items ≡ tokens (cells segments.now bytes.now)) }
+    ensures tokens { IfOk result (λ l. l.tokens ≡ tokens (cells segments.now bytes.now)) }
+    ensures starts { IfOk result (λ l. l.starts ≡ starts (cells segments.now bytes.now)) }
 {
     let mut out = Vec::new(alloc);
+    let mut begins = Vec::new(alloc);
     let mut cursor = start(segments);
     'pieces: while cursor.at < bytes.len() {
         let rest = past(bytes, cursor.at);
@@ -88,10 +99,30 @@ fn tokens_of(alloc: Global, segments: &[Segment], bytes: &[u8]) -> Result<Vec<To
             let segment = &segments[cursor.segment];
             let offset = cursor.offset as u32;
             out.push(token(alloc, kind, &rest[..n], segment, offset, copied)?)?;
+            begins.push(cursor.at as u32)?;
         }
         cursor = next;
     }
-    Ok(out)
+    Ok(Lexed {
+        tokens: List::of(out),
+        starts: List::of(begins),
+    })
+}
+
+/// The tokens of an expanded text as `lex` gives them, and of each of them how many bytes stand before it. It takes time in
+/// proportion to the bytes.
+///
+/// # Errors
+/// Only for want of memory.
+pub fn lex_with_starts(alloc: Global, text: &Expanded) -> Result<Lexed, NoMemory>
+    ensures tokens { IfOk result (λ l. l.tokens ≡ tokens text.now.cells) }
+    ensures starts { IfOk result (λ l. l.starts ≡ starts text.now.cells) }
+    ensures one_each { IfOk result (λ l. length l.starts ≡ length l.tokens) }
+    ensures rise { IfOk result (λ l. Rise 0 l.starts) }
+{
+    let bytes = text.bytes();
+    let segments = text.segments();
+    tokens_of(alloc, segments, bytes)
 }
 
 /// The tokens of an expanded text, in their order (IEEE 1800-2017, clause 5): at each place the longest lexeme or
@@ -102,7 +133,6 @@ fn tokens_of(alloc: Global, segments: &[Segment], bytes: &[u8]) -> Result<Vec<To
 pub fn lex(alloc: Global, text: &Expanded) -> Result<List<Token>, NoMemory>
     ensures { IfOk result (λ ts. ts ≡ tokens text.now.cells) }
 {
-    let bytes = text.bytes();
-    let segments = text.segments();
-    Ok(List::of(tokens_of(alloc, segments, bytes)?))
+    let Lexed { tokens, starts: _ } = lex_with_starts(alloc, text)?;
+    Ok(tokens)
 }

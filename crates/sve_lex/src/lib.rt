@@ -11,4 +11,4 @@ mod scan;
 
 pub use class::Class;
 pub use laws::text_has_one_list_of_pieces;
-pub use lexing::lex;
+pub use lexing::{Lexed, lex, lex_with_starts};

@@ -11,8 +11,7 @@ use Rattle.sve_contents.specs.declared.contents.Contents.{Contents}
 use Rattle.sve_contents.specs.Nested.{entered, left}
 use Rattle.sve_declare.specs.Parameters.{with_parameters}
 use Rattle.sve_declare.specs.Typedefs.{with_typedef}
-use Rattle.sve_data.proofs.Follow.{Keeps, SameIn, data_alike, data_keeps, named_alike, named_keeps, variables_alike, variables_keep}
-use Rattle.sve_loop_data.proofs.Follow.{indices_keep, loop_alike, loop_keeps, named_loop_alike, named_loop_keeps}
+use Rattle.sve_loop_data.proofs.Follow.{Keeps, SameIn, data_alike, data_keeps, indices_keep, loop_alike, loop_keeps, named_alike, named_keeps, named_loop_alike, named_loop_keeps, variables_alike, variables_keep}
 use Rattle.sve_local.specs.Steps.{done, stepped}
 
 -- scopes that open and close, parameters and types keep it too, and the last two are the same over both

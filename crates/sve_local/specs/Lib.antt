@@ -1,2 +1,3 @@
 pub mod Steps
 pub mod Within
+pub use Rattle.sve_loop_data.specs.Used

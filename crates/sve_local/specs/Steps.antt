@@ -7,11 +7,11 @@ use Rattle.sve_statement_use.specs.Steps.{Closes, DeclaresData, DeclaresIndices,
 use Rattle.sve_known.specs.Packages.{Known}
 use Rattle.sve_contents.specs.declared.contents.Contents.{Contents}
 use Rattle.sve_contents.specs.Nested.{entered, left}
-use Rattle.sve_scoped.specs.Known.{told_in}
+use Rattle.sve_declare.specs.Known.{told_in}
 use Rattle.sve_declare.specs.Parameters.{with_parameters}
 use Rattle.sve_declare.specs.Typedefs.{with_typedef}
-use Rattle.sve_used.specs.Used.{name_used}
-use Rattle.sve_data.specs.Declarations.{with_data, with_named_data, with_variables}
+use Rattle.sve_loop_data.specs.Used.{name_used}
+use Rattle.sve_loop_data.specs.Declarations.{with_data, with_named_data, with_variables}
 use Rattle.sve_loop_data.specs.Loops.{with_indices, with_loop, with_named_loop}
 
 -- where this is known in the scope, as far as its text was read, and where uses of names leave this

@@ -1,8 +1,8 @@
 -- A scope in which statements are read (own).
 use Rattle.sve_use.specs.Use.{Use}
 use Rattle.sve_statement_use.specs.Steps.{Local}
-use Rattle.sve_scoped.specs.Known.{told_in}
-use Rattle.sve_used.specs.Used.{name_used}
+use Rattle.sve_declare.specs.Known.{told_in}
+use Rattle.sve_loop_data.specs.Used.{name_used}
 use Rattle.sve_local.specs.declared.within.Within.{Within}
 use Rattle.sve_local.specs.Steps.{done}
 

@@ -8,7 +8,7 @@ use crate::within::Within;
 use std::alloc::Global;
 use sve_bytes::NoMemory;
 use sve_contents::Contents;
-use sve_scoped::Text;
+use sve_declare::Text;
 use sve_statement_use::names_in_block_items;
 use sve_tree::BlockItem;
 

@@ -1,17 +1,17 @@
 use std::alloc::Global;
 use sve_bytes::NoMemory;
 use sve_contents::Contents;
-use sve_data::{with_data, with_named_data, with_variables};
-use sve_declare::{with_parameters, with_typedef};
-use sve_loop_data::{with_indices, with_loop, with_named_loop};
-use sve_scoped::Text;
+use sve_declare::{Text, with_parameters, with_typedef};
+use sve_loop_data::{
+    dotted_use, taken_out, with_data, with_indices, with_loop, with_named_data, with_named_loop,
+    with_variables,
+};
 use sve_statement_use::Scopes;
 use sve_tree::{
     DataDeclaration, Declarator, ForVariable, Initializer, NamedDeclaration, Parameters, Postfix,
     ScopedName, Select, Typedef, VariableDeclaration,
 };
 use sve_use::Resolver;
-use sve_used::{dotted_use, taken_out};
 
 /// A scope in which statements are read: names that are used are resolved there, scopes open and close in it, and declarations come into
 /// the innermost one. It fails for want of memory alone; nothing counts.

@@ -22,7 +22,8 @@ use Rattle.sve_enumerated.specs.declared.passed.Passed.{Passed}
 use Rattle.sve_data.specs.declared.kind.DataKind.TheVariants as is_kind
 use Rattle.sve_data.specs.Declarators.{declarator_after}
 use Rattle.sve_data.specs.Declarations.{name_begun, type_selected}
-use Rattle.sve_data.proofs.Follow.{Keeps, SameIn, declarator_alike, declarator_keeps, name_keeps, uses_alike, uses_keep}
+pub use Rattle.sve_data.proofs.Follow.{Keeps, SameIn, data_alike, data_keeps, named_alike, named_keeps, variables_alike, variables_keep}
+use Rattle.sve_data.proofs.Follow.{declarator_alike, declarator_keeps, name_keeps, uses_alike, uses_keep}
 use Rattle.sve_loop_data.specs.declared.loops.Looping.{Looping}
 use Rattle.sve_loop_data.specs.Loops.{first_valued, index_after, int_type, loop_names, loop_token, loop_typed, named_loop_over, variable_after, variable_over, with_indices, with_loop, with_named_loop}
 

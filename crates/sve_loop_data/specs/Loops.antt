@@ -20,7 +20,7 @@ use Rattle.sve_contents.specs.declared.contents.Contents.{Contents}
 use Rattle.sve_contents.specs.Reading.{noted_all}
 use Rattle.sve_enumerated.specs.declared.passed.Passed.{Passed}
 use Rattle.sve_enumerated.specs.Types.{named_in}
-use Rattle.sve_scoped.specs.Said.{declared_at}
+use Rattle.sve_data.specs.Said.{declared_at}
 use Rattle.sve_data.specs.declared.kind.DataKind.TheVariants as is_kind
 use Rattle.sve_data.specs.Declarators.{declarator_after}
 use Rattle.sve_data.specs.Declarations.{name_begun, type_selected, type_token}

@@ -1,21 +1,22 @@
 //! The variables of loops.
 ghost use Rattle.std.specs.Prelude.{◌≡◌, [], IfOk};
 ghost use Rattle.sve_type_of.specs.TypeOf.{IsTyped, written};
-ghost use Rattle.sve_used.specs.Used.{name_used};
-ghost use Rattle.sve_scoped.specs.Known.{told_in};
+ghost use Rattle.sve_data.specs.Used.{name_used};
+ghost use Rattle.sve_data.specs.Known.{told_in};
 ghost use Rattle.sve_loop_data.specs.Loops.{all_variables, first_valued, index_after, int_type, loop_names, loop_token, loop_typed, variable_after, with_indices, with_loop, with_named_loop};
 
 use std::alloc::Global;
 use sve_bytes::{List, NoMemory};
 use sve_contents::Contents;
-use sve_data::{DataKind, declarator_after, name_begun, scalar, selected_in, type_token};
+use sve_data::{
+    DataKind, Text, around, declarator_after, declared_at, ended, endless, name_begun, names_used,
+    scalar, selected_in, type_token,
+};
 use sve_enumerated::{Passed, with_keyword_names};
 use sve_scope::{SharedType, What};
-use sve_scoped::{Text, around, declared_at, ended, endless};
 use sve_tree::{DataType, Declarator, ForVariable, Initializer, ScopedName, Select, Word};
 use sve_type_of::{Typed, keyword_type};
 use sve_types::{Atom, Base, Ty};
-use sve_used::names_used;
 
 /// A scope behind a variable of a `for`.
 #[derive(Drop)]

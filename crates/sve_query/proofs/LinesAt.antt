@@ -1,4 +1,4 @@
--- The answer over the values of all keys at some files is the answer at the files.
+-- What a query may be answered over the values of all keys at some files, it may be answered at the files.
 use Rattle.std.specs.Prelude.{ℕ, ◌≡◌, ◌&&◌, is_some, List, Some, None, if◌then◌else◌, refl}
 use Rattle.std.proofs.Common.{ap, ◌∙◌}
 use Rattle.sve_bytes.specs.FileName.{is_file_name_of}
@@ -14,7 +14,7 @@ use Rattle.sve_listing.specs.Lists.{tops_lines, diags_lines_of}
 use Rattle.sve_command.specs.declared.commands.Query.{Query}
 use Rattle.sve_command.specs.declared.commands.Query.TheVariants as asks
 use Rattle.sve_store.specs.declared.answer.Answer.{Answer}
-use Rattle.sve_store.specs.declared.answer.Answer.TheVariants.{Done as Answered}
+use Rattle.sve_store.specs.declared.answer.Answer.TheVariants.{Done}
 use Rattle.sve_store.specs.Made.{values_of}
 use Rattle.sve_store.specs.Values.{IsTable, IsAnswer}
 use Rattle.sve_key.specs.KeyOrder.{key_cmp}
@@ -28,8 +28,9 @@ use Rattle.sve_make.proofs.Values.{given_value}
 use Rattle.sve_answer.specs.Answers.{texts_by}
 use Rattle.sve_gathered.specs.Gathered.{rows_by}
 use Rattle.sve_gathered.proofs.AtFiles.{texts_are, names_are}
-use Rattle.sve_query.specs.Answering.{lines_by, answer_by}
-use Rattle.sve_query.specs.AnswersAt.{lines_at}
+use Rattle.sve_query.specs.Answering.{answers_by}
+use Rattle.sve_query.specs.AnswersAt.{Answers, IsElaborated}
+use Rattle.sve_query.proofs.Elaborated.{of_the_same}
 use Rattle.sve_query.proofs.SameFiles.{texts_same, index_same, diags_same}
 
 module _ (files : FilesValue) (table : Key → ℕ → Value) (is : IsTable key_cmp (values_of (given_of files)) make_of table) where
@@ -39,21 +40,24 @@ module _ (files : FilesValue) (table : Key → ℕ → Value) (is : IsTable key_
   told_is : texts_by table ≡ told_by files.rows
   told_is = λ i name. Some ((text_is name i).text)
 
-  lines_are : (q : Query) → lines_by table q ≡ lines_at files.rows q
-  lines_are (asks.File name) = ap (λ (t : TextValue). if is_file_name_of name then text_lines t.stamp t.text else none) (text_is name)
-  lines_are (asks.Expand name) =
-      let one : TextValue → Told → List (List ℕ) = λ t told. if is_file_name_of name && is_some t.text then expanded_lines (bytes_of (state_in (expand told fresh None name)).out) else none in
-      λ i. one (text_is name i) (told_is i)
-  lines_are asks.Tops = ap (λ (index : Index). tops_lines index.tops) (index_same (rows_by table) files.rows (texts_are files table is) (names_are files table is))
-  lines_are asks.Diagnostics =
+  same : (q : Query) (budget : ℕ) (answer : Answer) → IsElaborated (rows_by table) q budget answer → IsElaborated files.rows q budget answer
+  same = of_the_same (rows_by table) files.rows (texts_are files table is) (names_are files table is)
+
+  may_be : (q : Query) (budget : ℕ) (answer : Answer) → answers_by table q budget answer → Answers files.rows q budget answer
+  may_be (asks.File name) budget answer e = e ∙ ap (λ (t : TextValue). Done (if is_file_name_of name then text_lines t.stamp t.text else none)) (text_is name)
+  may_be (asks.Expand name) budget answer e =
+      let one : TextValue → Told → Answer = λ t told. Done (if is_file_name_of name && is_some t.text then expanded_lines (bytes_of (state_in (expand told fresh None name)).out) else none) in
+      e ∙ (λ i. one (text_is name i) (told_is i))
+  may_be asks.Tops budget answer e = e ∙ ap (λ (index : Index). Done (tops_lines index.tops)) (index_same (rows_by table) files.rows (texts_are files table is) (names_are files table is))
+  may_be asks.Diagnostics budget answer e =
       let texts = texts_are files table is in
       let names = names_are files table is in
-      λ i. diags_lines_of (texts_same (rows_by table) files.rows texts names i) (diags_same (rows_by table) files.rows texts names i)
-  lines_are (asks.Instance path) = refl
-  lines_are asks.Tree = refl
-  lines_are (asks.TypeOf path name) = refl
-  lines_are (asks.Param path name) = refl
-  lines_are (asks.Resolve path name) = refl
+      e ∙ (λ i. Done (diags_lines_of (texts_same (rows_by table) files.rows texts names i) (diags_same (rows_by table) files.rows texts names i)))
+  may_be (asks.Instance path) budget answer e = same (asks.Instance path) budget answer e
+  may_be asks.Tree budget answer e = same asks.Tree budget answer e
+  may_be (asks.TypeOf path name) budget answer e = same (asks.TypeOf path name) budget answer e
+  may_be (asks.Param path name) budget answer e = same (asks.Param path name) budget answer e
+  may_be (asks.Resolve path name) budget answer e = same (asks.Resolve path name) budget answer e
 
-pub answers_at : (files : FilesValue) (query : Query) (budget : ℕ) (answer : Answer) → IsAnswer key_cmp (values_of (given_of files)) make_of answer_by query budget answer → answer ≡ Answered (lines_at files.rows query)
-answers_at files query budget answer (table, is, e) = e ∙ ap Answered (lines_are files table is query)
+pub answers_at : (files : FilesValue) (query : Query) (budget : ℕ) (answer : Answer) → IsAnswer key_cmp (values_of (given_of files)) make_of answers_by query budget answer → Answers files.rows query budget answer
+answers_at files query budget answer (table, is, may) = may_be files table is query budget answer may

@@ -2,12 +2,12 @@
 ghost use Rattle.std.specs.Prelude.{refl};
 ghost use Rattle.sve_key.specs.KeyOrder.{rank_of};
 ghost use Rattle.sve_make.specs.Make.{make_of};
-ghost use Rattle.sve_query.specs.Answering.{answer_by, asks_by};
+ghost use Rattle.sve_query.specs.Answering.{answers_by, asks_by};
 ghost use Rattle.sve_make.proofs.Needs.{at_other_fuel, free, higher, lower};
 ghost use Rattle.sve_make.proofs.Values.{reading};
 ghost use Rattle.sve_make.specs.AtFiles.{reads_of};
 
-use crate::answering::answer_lines;
+use crate::answering::answer_of;
 use crate::svq::Svq;
 use std::alloc::Global;
 use sve_command::Query;
@@ -22,7 +22,7 @@ impl Kinds for Svq {
 
     ghost make = { make_of };
 
-    ghost answer_over = { answer_by };
+    ghost answers_over = { answers_by };
 
     ghost asks_over = { asks_by };
 
@@ -40,11 +40,10 @@ impl Kinds for Svq {
     fn answer<F: Fetch<Svq>>(
         alloc: Global,
         q: &Query,
-        _budget: u32,
+        budget: u32,
         from: &mut F,
     ) -> Result<Answer, Halt> {
-        let found = answer_lines(alloc, from, q)?;
-        Ok(Answer::Done(found.into_list(alloc)?))
+        answer_of(alloc, from, q, budget)
     }
 
     ghost free = { free };

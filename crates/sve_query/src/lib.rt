@@ -2,6 +2,7 @@
 #![tactic(auto)]
 
 mod answering;
+mod designs;
 mod kinds;
 pub mod laws;
 mod lists;

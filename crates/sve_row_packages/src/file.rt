@@ -1,15 +1,13 @@
 //! What is told of a file.
 use crate::elements::{MOST, elements_of, package_name};
-use crate::rounds::rounds_of;
 use std::alloc::Global;
-use std::sync::Arc;
 use sve_bytes::{Name, NoMemory};
 use sve_contents::Contents;
-use sve_facts::Facts;
 use sve_function::Constants;
 use sve_index::FileElement;
 use sve_known::Known;
-use sve_package::{cyclic_package, package, unit_scope};
+use sve_package::unit_scope;
+use sve_packages::packages;
 use sve_table::Table;
 
 /// What is told of a chunk.
@@ -49,74 +47,12 @@ impl Drop for File {
     }
 }
 
-/// Adds a package of this name, of which this is found, to those that are known.
-fn add_known(
-    alloc: Global,
-    known: &mut Table<Known>,
-    name: &Name,
-    facts: Facts,
-) -> Result<(), NoMemory> {
-    let facts = Arc::new(alloc, facts)?;
-    let _is_new = known.add(Known::of(alloc, name.copy()?, facts)?)?;
-    Ok(())
-}
-
-/// Adds the package of an element, where it has one, to those that are known: what is found of it over these, where it has a round, or where
-/// it has none.
-fn add_package(
-    alloc: Global,
-    known: &mut Table<Known>,
-    each: &FileElement,
-    has_round: bool,
-) -> Result<(), NoMemory> {
-    let tree = each.element();
-    let Some(name) = package_name(tree) else {
-        return Ok(());
-    };
-    let facts = if has_round {
-        package(alloc, &Constants, known, &each.file, each.chunk, tree)?
-    } else {
-        cyclic_package(alloc, &each.file, each.chunk, tree)?
-    };
-    add_known(alloc, known, name, facts)
-}
-
-/// Adds the packages of one round, or those that have none, to those that are known.
-fn add_round(
-    alloc: Global,
-    known: &mut Table<Known>,
-    elements: &[FileElement],
-    rounds: &[Option<u32>],
-    round: Option<u32>,
-) -> Result<(), NoMemory> {
-    for (each, its) in elements.iter().zip(rounds.iter()) {
-        if *its == round {
-            add_package(alloc, known, each, round.is_some())?;
-        }
-    }
-    Ok(())
-}
-
-/// Adds the packages of all rounds, and behind them those that have none, to those that are known.
-fn add_rounds(
-    alloc: Global,
-    known: &mut Table<Known>,
-    elements: &[FileElement],
-    rounds: &[Option<u32>],
-) -> Result<(), NoMemory> {
-    for round in 0..rounds.len() {
-        let round = Some(round.min(MOST) as u32);
-        add_round(alloc, known, elements, rounds, round)?;
-    }
-    add_round(alloc, known, elements, rounds, None)
-}
-
-/// The packages of elements, each over those of the rounds in front of its own.
+/// The packages of elements; none where they are too many.
 fn known_of(alloc: Global, elements: &[FileElement]) -> Result<Table<Known>, NoMemory> {
-    let rounds = rounds_of(alloc, elements)?;
-    let mut known = Table::new(alloc);
-    add_rounds(alloc, &mut known, elements, &rounds)?;
-    Ok(known)
+    if elements.len() > MOST {
+        return Ok(Table::new(alloc));
+    }
+    packages(alloc, elements)
 }
 
 /// What is told of the last of these chunks of a file, which has this element.

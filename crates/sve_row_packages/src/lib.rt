@@ -3,7 +3,6 @@
 
 mod elements;
 mod file;
-mod rounds;
 
 pub use elements::SEE;
 pub use file::{Chunk, File, file_of};

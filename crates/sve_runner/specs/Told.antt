@@ -29,9 +29,9 @@ use Rattle.sve_runner.specs.declared.terms.Terms.{Terms}
 use Rattle.sve_runner.specs.declared.told.Told.{Told}
 use Rattle.sve_runner.specs.Honest.{budget_under, mode_under, front_after, front_at, accepted_from}
 
--- the answers that kinds with these values of inputs, these definitions of values and these answers over values have
-abbrev pub answers_by : {K V Q : Type 0} → (K → K → Ordering) → (FilesValue → K → Option (V × ℕ)) → (K → ℕ → (K → Option V) → Made K V) → ((K → ℕ → V) → Q → ℕ → Answer) → FilesValue → Q → ℕ → Answer → Type 0
-answers_by cmp given make answer_over files query budget answer = IsAnswer cmp (values_of (given files)) make answer_over query budget answer
+-- the answers that kinds with these values of inputs, these definitions of values and these answers over values may give
+abbrev pub answers_by : {K V Q : Type 0} → (K → K → Ordering) → (FilesValue → K → Option (V × ℕ)) → (K → ℕ → (K → Option V) → Made K V) → ((K → ℕ → V) → Q → ℕ → Answer → Type 0) → FilesValue → Q → ℕ → Answer → Type 0
+answers_by cmp given make answers_over files query budget answer = IsAnswer cmp (values_of (given files)) make answers_over query budget answer
 
 -- the clients have not too many commands together, and no command too many edits, to be counted in 32 bits
 pub record AreFew (clients : List (List Command)) : Type 0 where

@@ -56,7 +56,7 @@ where
     requires edits { (j : ℕ) → edits_in_command (slice_get commands.now j) ≡ P.table pass.old.number (j + 1) }
     ensures ready { IsReady P.board.table pass.new }
     ensures number { pass.new.number ≡ pass.old.number }
-    ensures told { IfOk result (λ told. (front : ℕ) → front ≤ largest pass.old.looks → HasWalked (answers_by K.Key.cmp K.given K.make K.answer_over) terms P.opening P.table pass.old.number front commands.now pass.new told.records) }
+    ensures told { IfOk result (λ told. (front : ℕ) → front ≤ largest pass.old.looks → HasWalked (answers_by K.Key.cmp K.given K.make K.answers_over) terms P.opening P.table pass.old.number front commands.now pass.new told.records) }
     ensures few { length pass.new.mine ≤ length commands.now }
     ensures full { IsErrOf result Stop.Full → (length pass.new.mine < length commands.now) × (length pass.new.seen ≡ P.most) }
 {
@@ -105,7 +105,7 @@ where
     requires edits { edits_in_command (Some command.now) ≡ P.table pass.old.number number }
     ensures later { IsLater pass.old pass.new }
     ensures ready { IsReady P.board.table pass.new }
-    ensures told { IfOk result (λ step. IsTold (answers_by K.Key.cmp K.given K.make K.answer_over) terms P.opening P.table pass.old.number number command.now pass.old pass.new step.told) }
+    ensures told { IfOk result (λ step. IsTold (answers_by K.Key.cmp K.given K.make K.answers_over) terms P.opening P.table pass.old.number number command.now pass.old pass.new step.told) }
     ensures unchanged { OnErr result (pass.new.mine ≡ pass.old.mine) }
     ensures full { IsErrOf result Stop.Full → length pass.new.seen ≡ P.most }
 {
@@ -149,7 +149,7 @@ where
     requires edits { edits.now ≡ P.table pass.old.number number }
     ensures later { IsLater pass.old pass.new }
     ensures ready { IsReady P.board.table pass.new }
-    ensures told { IfOk result (λ step. IsTold (answers_by K.Key.cmp K.given K.make K.answer_over) _terms P.opening P.table pass.old.number number (Commits edits.now) pass.old pass.new step.told) }
+    ensures told { IfOk result (λ step. IsTold (answers_by K.Key.cmp K.given K.make K.answers_over) _terms P.opening P.table pass.old.number number (Commits edits.now) pass.old pass.new step.told) }
     ensures unchanged { OnErr result (pass.new.mine ≡ pass.old.mine) }
     ensures full { IsErrOf result Stop.Full → length pass.new.seen ≡ P.most }
 {
@@ -187,7 +187,7 @@ where
     requires pass { IsReady P.board.table pass.old }
     ensures later { IsLater pass.old pass.new }
     ensures ready { IsReady P.board.table pass.new }
-    ensures told { IfOk result (λ step. IsTold (answers_by K.Key.cmp K.given K.make K.answer_over) terms P.opening P.table pass.old.number number (Ask query.now mode budget) pass.old pass.new step.told) }
+    ensures told { IfOk result (λ step. IsTold (answers_by K.Key.cmp K.given K.make K.answers_over) terms P.opening P.table pass.old.number number (Ask query.now mode budget) pass.old pass.new step.told) }
     ensures unchanged { OnErr result (pass.new.mine ≡ pass.old.mine) }
     ensures memory { ¬ IsErrOf result Stop.Full }
 {

@@ -51,7 +51,7 @@ where
     requires clients { (0 < length clients.now) × (length clients.now ≤ 16) }
     requires few { AreFew clients.now }
     requires opening { IsOpening files }
-    ensures { IfOk result (λ ran. AreHonest (answers_by K.Key.cmp K.given K.make K.answer_over) terms files clients.now (told_entries ran.history) ran.records) }
+    ensures { IfOk result (λ ran. AreHonest (answers_by K.Key.cmp K.given K.make K.answers_over) terms files clients.now (told_entries ran.history) ran.records) }
 {
     let script = ScriptClient {
         clients,

@@ -34,7 +34,7 @@ impl<'a, K: Start<Query = Query>, G: Gate> Client<K> for ScriptClient<'a, G> {
 
     ghost edits = { λ script. edits_in script.clients.now };
 
-    ghost leaves = { λ script opening most number front pass left. HasLeft (answers_by K.Key.cmp K.given K.make K.answer_over) script.terms opening (edits_in script.clients.now) most number front (commands_at script.clients.now number) pass left };
+    ghost leaves = { λ script opening most number front pass left. HasLeft (answers_by K.Key.cmp K.given K.make K.answers_over) script.terms opening (edits_in script.clients.now) most number front (commands_at script.clients.now number) pass left };
 
     fn run<P: Plan, R: Wait>(
         &self,

@@ -107,7 +107,7 @@ impl Kinds for Texts {
 
     ghost make = { made };
 
-    ghost answer_over = { told_of };
+    ghost answers_over = { λ table query budget answer. answer ≡ told_of table query budget };
 
     ghost asks_over = { asks_for };
 

@@ -1,7 +1,7 @@
 //! Types and values where a scope's own text stands. Their nodes are not bounded here: what packages and compilation units declare counts
 //! nothing.
 ghost use Rattle.std.specs.Prelude.{◌≡◌, ◌∷◌, [], IfOk};
-ghost use Rattle.sve_type_of.specs.TypeOf.{IsTyped, declared, notes_in, referred, unpacked_over};
+ghost use Rattle.sve_assigned.specs.TypeOf.{IsTyped, declared, notes_in, referred, unpacked_over};
 ghost use Rattle.sve_type_rule.specs.Outcomes.{scalar};
 ghost use Rattle.sve_assigned.specs.Assignments.{default_value, told_of};
 ghost use Rattle.sve_assigned.specs.Forms.{IsFormed, formed};
@@ -10,7 +10,9 @@ ghost use Rattle.sve_scoped.specs.Known.{told_in};
 
 use crate::unbounded::{ended, endless};
 use std::alloc::Global;
-use sve_assigned::{Assigned, Form, Formed, assigned, form_of};
+use sve_assigned::{
+    Assigned, Form, Formed, Typed, assigned, declared_type, form_of, type_of, with_unpacked,
+};
 use sve_bytes::{List, NoMemory};
 use sve_contents::Contents;
 use sve_diag::Note;
@@ -18,7 +20,6 @@ use sve_here::Here;
 use sve_known::Known;
 use sve_table::Table;
 use sve_tree::{DeclaredType, Dimension, Expr, TypeRef, Word};
-use sve_type_of::{Typed, declared_type, type_of, with_unpacked};
 use sve_types::{Base, Ty, Vec_};
 
 /// What the text of a scope stands among. The text itself, as far as it was read, is in the scope's contents, whose file and chunk are

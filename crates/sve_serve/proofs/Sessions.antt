@@ -25,7 +25,7 @@ use Rattle.sve_serve.specs.declared.status.Status.{Status}
 use Rattle.sve_serve.specs.declared.status.Status.TheVariants.{Done}
 use Rattle.sve_serve.specs.Runs.{IsReportOf, IsOutputForSession}
 use Rattle.sve_serve.specs.Unbuilt.{first_later}
-use Rattle.sve_serve.proofs.OneReport.{one_report}
+use Rattle.sve_serve.proofs.InTurn.{are_in_turn}
 
 -- ---- its opening files
 
@@ -66,7 +66,7 @@ reported options bytes text script entries records session whole honest written 
   session = session;
   whole = whole;
   honest = honest;
-  in_turn = λ turns. let same = one_report (terms_of options) script.files script.clients entries records (in_turn options script.clients turns) honest in written ∙ (λ k. report (same.1 k) (same.0 k));
+  in_turn = λ turns. let told = are_in_turn (terms_of options) script.files script.clients entries records (in_turn options script.clients turns) honest in (records, told.0, written ∙ ap (λ (es : List Entry). report es records) told.1);
   written = written;
 }
 

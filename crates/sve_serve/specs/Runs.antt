@@ -9,7 +9,7 @@ use Rattle.sve_report.specs.declared.record.Record.{Record}
 use Rattle.sve_serve.specs.declared.status.Status.{Status}
 use Rattle.sve_serve.specs.declared.status.Status.TheVariants.{Done, Usage, BadSession, ReadFault, WriteFault, TooLarge, NoMemory}
 use Rattle.sve_serve.specs.Honest.{Honest, run_budget, AreInTurn}
-use Rattle.sve_serve.specs.Serial.{report_in_turn}
+use Rattle.sve_serve.specs.Serial.{IsReportInTurn}
 use Rattle.sve_report.specs.Lines.{ended}
 use Rattle.sve_report.specs.Reports.{report}
 use Rattle.sve_serve.specs.Unbuilt.{first_later}
@@ -52,8 +52,8 @@ too_large_line = ended (codes "bad session: more than 16777216 bytes")
 abbrev pub IsLater : List ℕ → List ℕ → Type 0
 IsLater bytes path = (script : Script) × IsSession bytes script × (first_later script.clients ≡ Some path)
 
--- The bytes are a session, all of which is answered, and the text reports a history of it with records that are honest in a run with these options. Clients
--- that run one after another have one report.
+-- The bytes are a session, all of which is answered, and the text reports a history of it with records that are honest in a run with these options. Where
+-- its clients run one after another, it is a report of clients in turn: each command comes at the newest revision, and no ask is cancelled.
 pub record IsReportOf (options : Options) (bytes text : List ℕ) : Type 0 where
   pub script : Script
   pub entries : List Entry
@@ -61,7 +61,7 @@ pub record IsReportOf (options : Options) (bytes text : List ℕ) : Type 0 where
   pub session : IsSession bytes script
   pub whole : first_later script.clients ≡ None
   pub honest : Honest options script entries records
-  pub in_turn : AreInTurn options script.clients → text ≡ report_in_turn (run_budget options) script.files script.clients
+  pub in_turn : AreInTurn options script.clients → IsReportInTurn (run_budget options) script.files script.clients text
   pub written : text ≡ report entries records
 
 -- the line for bytes that are no session, or one that is not answered yet

@@ -1,5 +1,6 @@
--- The one report of a session whose clients run one after another: each command comes at the newest revision (own).
-use Rattle.std.specs.Prelude.{ℕ, ◌+◌, List, [], ◌∷◌, ◌++◌, length, Option, Some, None, unwrap_or}
+-- The report of a session whose clients run one after another: each command comes at the newest revision (own).
+use Rattle.std.specs.Prelude.{ℕ, ◌≡◌, ◌+◌, List, [], ◌∷◌, ◌++◌, length, Option, Some, None, unwrap_or, IsTrue}
+use Rattle.std.specs.List.{AllByRecursion}
 use Rattle.sve_text.specs.declared.edit.Edit.{Edit}
 use Rattle.sve_text.specs.declared.why.Refusal.{Refusal}
 use Rattle.sve_text.specs.Files.{FilesValue, files_after}
@@ -12,7 +13,8 @@ use Rattle.sve_report.specs.declared.entry.Entry.{Entry}
 use Rattle.sve_report.specs.declared.record.Record.{Record}
 use Rattle.sve_report.specs.declared.record.Record.TheVariants.{Accepted, Refused, Answered, Spent}
 use Rattle.sve_report.specs.Reports.{report}
-use Rattle.sve_serve.specs.Answers.{answer_at}
+use Rattle.sve_query.specs.AnswersAt.{has_one_answer}
+use Rattle.sve_serve.specs.Answers.{IsAnswerAt}
 
 -- the accepted commits, and the files that they leave
 pub record Revisions : Type 0 where
@@ -33,7 +35,7 @@ abbrev pub commit_record : Revisions → Option Refusal → Record
 commit_record h None = Accepted (length h.entries + 1)
 commit_record h (Some refusal) = Refused (length h.entries) refusal.edit refusal.why
 
--- what an ask with this budget is told
+-- what an ask with this budget is told, where this is its answer
 abbrev pub ask_record : ℕ → ℕ → Answer → Record
 ask_record r budget (Done lines) = Answered r lines
 ask_record r budget Unanswered = Spent r budget
@@ -43,35 +45,49 @@ abbrev pub revisions_after_one : Revisions → ℕ → ℕ → Command → Revis
 revisions_after_one h i j (Commit edits) = committed h (entry_of i j) edits (refusal_of h.newest edits)
 revisions_after_one h i j (Ask query mode budget) = h
 
--- what a command is told, where asks that give no budget have this one
-abbrev pub record_of : ℕ → Revisions → Command → Record
-record_of given h (Commit edits) = commit_record h (refusal_of h.newest edits)
-record_of given h (Ask query mode budget) = ask_record (length h.entries) (unwrap_or budget given) (answer_at h.newest query (unwrap_or budget given))
+-- A command is told this, where asks that give no budget have this one. What a commit is told follows from the revisions, and an ask is told an answer that
+-- its query may have at the newest files.
+abbrev pub IsRecordOf : ℕ → Revisions → Command → Record → Type 0
+IsRecordOf given h (Commit edits) rec = rec ≡ commit_record h (refusal_of h.newest edits)
+IsRecordOf given h (Ask query mode budget) rec = (answer : Answer) × IsAnswerAt h.newest query (unwrap_or budget given) answer × (rec ≡ ask_record (length h.entries) (unwrap_or budget given) answer)
 
 -- what the commands of client i leave, from number j on
 abbrev pub revisions_after : Revisions → ℕ → ℕ → List Command → Revisions
 revisions_after h i j [] = h
 revisions_after h i j (command ∷ commands) = revisions_after (revisions_after_one h i j command) i (j + 1) commands
 
--- what they are told
-abbrev pub records_of : ℕ → Revisions → ℕ → ℕ → List Command → List Record
-records_of given h i j [] = []
-records_of given h i j (command ∷ commands) = record_of given h command ∷ records_of given (revisions_after_one h i j command) i (j + 1) commands
+-- they are told these
+abbrev pub AreRecordsOf : ℕ → Revisions → ℕ → ℕ → List Command → List Record → Type 0
+AreRecordsOf given h i j [] [] = Unit {0}
+AreRecordsOf given h i j (command ∷ commands) (rec ∷ recs) = IsRecordOf given h command rec × AreRecordsOf given (revisions_after_one h i j command) i (j + 1) commands recs
+AreRecordsOf given h i j [] (rec ∷ recs) = ⊥
+AreRecordsOf given h i j (command ∷ commands) [] = ⊥
 
 -- what all commands leave of the clients from number i on, each of which runs when the one before it has ended
 abbrev pub revisions_in_turn : Revisions → ℕ → List (List Command) → Revisions
 revisions_in_turn h i [] = h
 revisions_in_turn h i (commands ∷ clients) = revisions_in_turn (revisions_after h i 1 commands) (i + 1) clients
 
--- what these clients are told
-abbrev pub records_in_turn : ℕ → Revisions → ℕ → List (List Command) → List (List Record)
-records_in_turn given h i [] = []
-records_in_turn given h i (commands ∷ clients) = records_of given h i 1 commands ∷ records_in_turn given (revisions_after h i 1 commands) (i + 1) clients
+-- these clients are told these
+abbrev pub AreRecordsInTurn : ℕ → Revisions → ℕ → List (List Command) → List (List Record) → Type 0
+AreRecordsInTurn given h i [] [] = Unit {0}
+AreRecordsInTurn given h i (commands ∷ clients) (recs ∷ records) = AreRecordsOf given h i 1 commands recs × AreRecordsInTurn given (revisions_after h i 1 commands) (i + 1) clients records
+AreRecordsInTurn given h i [] (recs ∷ records) = ⊥
+AreRecordsInTurn given h i (commands ∷ clients) [] = ⊥
 
 -- the opening files, which no commit has touched
 abbrev pub opened : FilesValue → Revisions
 opened files = record { entries = []; newest = files }
 
--- the report of clients with these commands, one after another, over these opening files
-abbrev pub report_in_turn : ℕ → FilesValue → List (List Command) → List ℕ
-report_in_turn given files clients = report (revisions_in_turn (opened files) 1 clients).entries (records_in_turn given (opened files) 1 clients)
+-- the text is a report of clients with these commands, one after another, over these opening files
+abbrev pub IsReportInTurn : ℕ → FilesValue → List (List Command) → List ℕ → Type 0
+IsReportInTurn given files clients text = (records : List (List Record)) × AreRecordsInTurn given (opened files) 1 clients records × (text ≡ report (revisions_in_turn (opened files) 1 clients).entries records)
+
+-- a command is no ask, or its query has one answer at any files
+abbrev pub HasOneAnswer : Command → Type 0
+HasOneAnswer (Commit edits) = Unit {0}
+HasOneAnswer (Ask query mode budget) = IsTrue (has_one_answer query)
+
+-- all asks of these clients have one answer at any files
+abbrev pub HaveOneAnswer : List (List Command) → Type 0
+HaveOneAnswer clients = AllByRecursion (AllByRecursion HasOneAnswer) clients

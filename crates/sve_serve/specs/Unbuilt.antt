@@ -9,10 +9,10 @@ abbrev pub is_built : Query → Bool
 is_built (Query.File name) = true
 is_built (Query.Expand name) = true
 is_built Query.Tops = true
-is_built (Query.Instance path) = false
-is_built Query.Tree = false
-is_built (Query.TypeOf path name) = false
-is_built (Query.Param path name) = false
+is_built (Query.Instance path) = true
+is_built Query.Tree = true
+is_built (Query.TypeOf path name) = true
+is_built (Query.Param path name) = true
 is_built (Query.Resolve path name) = false
 is_built Query.Diagnostics = true
 

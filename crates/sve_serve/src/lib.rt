@@ -1,6 +1,7 @@
 //! The whole program over any source and sink: a session is read, run and answered, and its report is written.
 #![tactic(auto)]
 
+pub mod laws;
 mod running;
 mod serving;
 mod status;

@@ -48,9 +48,9 @@ struct Reply {
 
 /// Does all that the program does: reads the words, then for `run` the session from the source to its end, runs its
 /// clients, and writes the report to the sink. A session has at most 16,777,216 bytes. Each client has a thread of its
-/// own, or shares the calling one where none can be had; with `--serial` they run one after another, and the session has
-/// one report. Every thread is joined. In each ask the gate is told when the ask has its snapshot, and when it has its
-/// outcome. It may wait.
+/// own, or shares the calling one where none can be had; with `--serial` they run one after another, and each command
+/// comes at the newest revision. Every thread is joined. In each ask the gate is told when the ask has its snapshot, and
+/// when it has its outcome. It may wait.
 ///
 /// The words are `run` and its options: `--budget N` or `--budget=N`, the budget of asks that give none, in steps of
 /// elaboration, and `--serial`. It answers `Usage` where they are others; the source is then not read. It answers
@@ -71,7 +71,8 @@ where
     K: Sink,
     G: Gate + Sync,
     // The bytes of the source are a session, and the sink gained the report of one legal history and of records that are
-    // honest for it, whatever the schedule of the clients was. Clients that run one after another leave one report.
+    // honest for it, whatever the schedule of the clients was. Where clients run one after another, each command comes at
+    // the newest revision.
     ensures headline { result ≡ Status.Done
         → (options : OptionsSaid) × (spoken (map string_bytes words.now) ≡ Spoken.Run options)
         × (bytes : List ℕ) × (text : List ℕ) × AreLeft (S.left source.old) bytes × IsReportOf options bytes text × Gains (K.held sink.old) (K.held sink.new) text }

@@ -13,12 +13,15 @@ fn is_built(query: &Query) -> bool
     ensures { result ≡ is_built query.now }
 {
     match query {
-        Query::File { .. } | Query::Expand { .. } | Query::Tops | Query::Diagnostics => true,
-        Query::Instance { .. }
+        Query::File { .. }
+        | Query::Expand { .. }
+        | Query::Tops
+        | Query::Instance { .. }
         | Query::Tree
         | Query::TypeOf { .. }
         | Query::Param { .. }
-        | Query::Resolve { .. } => false,
+        | Query::Diagnostics => true,
+        Query::Resolve { .. } => false,
     }
 }
 

@@ -1,1 +1,2 @@
 pub mod Simple
+pub use Rattle.sve_measure.specs.Constants

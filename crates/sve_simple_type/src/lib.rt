@@ -9,3 +9,4 @@ mod naming;
 pub use dimensions::ranges;
 pub use keyword::{atom_typed, implicit_typed, sign_or, vector_typed};
 pub use naming::named_typed;
+pub use sve_measure::operand;

@@ -36,9 +36,9 @@ module _ {K V : Type 0} (cmp : K → K → Ordering) (given : K → Option V) (m
   abbrev pub IsTable : (K → ℕ → V) → Type 0
   IsTable table = (k : K) (fuel : ℕ) → IsValue k fuel (table k fuel)
 
-  -- a query has this answer within the budget
-  abbrev pub IsAnswer : {Q : Type 0} → ((K → ℕ → V) → Q → ℕ → Answer) → Q → ℕ → Answer → Type 0
-  IsAnswer answer_over q budget answer = (table : K → ℕ → V) × IsTable table × (answer ≡ answer_over table q budget)
+  -- a query may have this answer within the budget
+  abbrev pub IsAnswer : {Q : Type 0} → ((K → ℕ → V) → Q → ℕ → Answer → Type 0) → Q → ℕ → Answer → Type 0
+  IsAnswer answers_over q budget answer = (table : K → ℕ → V) × IsTable table × answers_over table q budget answer
 
 -- these values are told on the way to the value of the key
 pub data OnTheWay {K V : Type 0} (cmp : K → K → Ordering) (given : K → Option V) (make : K → ℕ → (K → Option V) → Made K V) : K → ℕ → List (K × V) → Type 0 where

@@ -171,8 +171,8 @@ pub trait Kinds: Keyed {
     // The value of a key over what is told, or a key that is needed first.
     ghost make: { Self.Key → ℕ → (Self.Key → Option Self.Value) → Made Self.Key Self.Value };
 
-    // The answer of a query within a budget, over the values of all keys at all fuels.
-    ghost answer_over: { (Self.Key → ℕ → Self.Value) → Self.Query → ℕ → AnswerValue };
+    // What a query may be answered within a budget, over the values of all keys at all fuels.
+    ghost answers_over: { (Self.Key → ℕ → Self.Value) → Self.Query → ℕ → AnswerValue → Type 0 };
 
     // The keys with their fuels that a query asks for within a budget, over these values.
     ghost asks_over: { (Self.Key → ℕ → Self.Value) → Self.Query → ℕ → Self.Key → ℕ → Type 0 };
@@ -208,7 +208,7 @@ pub trait Kinds: Keyed {
     ) -> Result<Answer, Halt>
         ensures tells { TellSame (F.tells from.old) (F.tells from.new) }
         ensures keeps { F.keeps from.old from.new }
-        ensures answered { (table : Self.Key → ℕ → Self.Value) → Follows Self.read_at table (F.tells from.old) → IfOk result (λ answer. answer ≡ answer_over table q.now budget) }
+        ensures answered { (table : Self.Key → ℕ → Self.Value) → Follows Self.read_at table (F.tells from.old) → IfOk result (λ answer. answers_over table q.now budget answer) }
         ensures quiet { (table : Self.Key → ℕ → Self.Value) → Follows Self.read_at table (F.tells from.old) → ((k : Self.Key) (f : ℕ) → asks_over table q.now budget k f → F.is_quiet from.old k f) → Self.counted (F.kind from.new) ≡ Self.counted (F.kind from.old) }
 
         // What is done has fetched each computed key that it asks for.

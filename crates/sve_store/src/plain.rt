@@ -121,7 +121,7 @@ pub fn plain_answer<K: Start>(
     query: &K::Query,
     budget: u32,
 ) -> Result<Answer, NoMemory>
-    ensures { IfOk result (λ answer. IsAnswer K.Key.cmp (values_of (K.given snapshot.now.files)) K.make K.answer_over query.now budget answer) }
+    ensures { IfOk result (λ answer. IsAnswer K.Key.cmp (values_of (K.given snapshot.now.files)) K.make K.answers_over query.now budget answer) }
 {
     let mut kinds = K::start(snapshot.files());
     let mut from = Plain::new(&mut kinds, snapshot);

@@ -133,7 +133,7 @@ impl Kinds for Toy {
 
     ghost make = { make_of };
 
-    ghost answer_over = { told_of };
+    ghost answers_over = { λ table query budget answer. answer ≡ told_of table query budget };
 
     ghost asks_over = { asks_for };
 

@@ -13,7 +13,7 @@ use Rattle.sve_tree.specs.declared.expression.Select.TheVariants as is_select
 use Rattle.sve_rule.specs.Dimensions.{range_judged, size_judged}
 use Rattle.sve_env.specs.Told.{Told}
 use Rattle.sve_env.specs.Nodes.{range_nodes}
-use Rattle.sve_measure.specs.Constants.{measured}
+use Rattle.sve_simple_type.specs.Constants.{measured}
 use Rattle.sve_type_rule.specs.Ranges.{Dimensioned, no_ranges, ranged}
 use Rattle.sve_type_rule.specs.Outcomes.{Behind, Outcome, named as named_behind, packed_outcome}
 use Rattle.sve_simple_type.specs.Simple.{named_over, type_named}

@@ -14,9 +14,8 @@ use sve_bytes::NoMemory;
 use sve_diag::Code;
 use sve_env::{Env, visit};
 use sve_fault::{Fault, Fuel, Halted};
-use sve_measure::operand;
 use sve_rule::{range, size};
-use sve_simple_type::named_typed;
+use sve_simple_type::{named_typed, operand};
 use sve_tree::{NamedType, Range as Bounds, ScopedName, Select};
 use sve_type_rule::{
     NamedType as NameBehind, Ranges, Typed as Outcome, named, no_ranges, packed, ranged,

@@ -18,6 +18,6 @@ use sve_store::Start;
 /// was lent for the history of its snapshot.
 pub fn every_schedule_is_honest<K: Start, F>()
     ensures { (opening : FilesValue) (clients : ℕ) (memos_of : F → List (MemoValue K.Key K.Value)) (events : List (EventOf K.Query F)) (after : WorldValue K.Query K.Key K.Value) → IsOpening opening
-        → Schedule (record { cmp = K.Key.cmp; given = K.given; make = K.make; ranked = K.ranked; serves = K.serves }) memos_of (λ files. IsAnswer K.Key.cmp (values_of (K.given files)) K.make K.answer_over) (opened opening clients) events after
-        → IsWorld (λ files. IsAnswer K.Key.cmp (values_of (K.given files)) K.make K.answer_over) after.history after.seats × HoldsSound (record { cmp = K.Key.cmp; given = K.given; make = K.make; ranked = K.ranked; serves = K.serves }) after }
+        → Schedule (record { cmp = K.Key.cmp; given = K.given; make = K.make; ranked = K.ranked; serves = K.serves }) memos_of (λ files. IsAnswer K.Key.cmp (values_of (K.given files)) K.make K.answers_over) (opened opening clients) events after
+        → IsWorld (λ files. IsAnswer K.Key.cmp (values_of (K.given files)) K.make K.answers_over) after.history after.seats × HoldsSound (record { cmp = K.Key.cmp; given = K.given; make = K.make; ranked = K.ranked; serves = K.serves }) after }
 {}

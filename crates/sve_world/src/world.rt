@@ -37,7 +37,7 @@ impl<K: Start> Model for World<K> {
 
     ghost view = { λ w. record { history = w.core.history; memos = w.core.memos; seats = map seat_value w.seats.items } };
 
-    ghost invariant = { λ w. IsWorld (λ files. IsAnswer K.Key.cmp (values_of (K.given files)) K.make K.answer_over) w.core.history (map seat_value w.seats.items) };
+    ghost invariant = { λ w. IsWorld (λ files. IsAnswer K.Key.cmp (values_of (K.given files)) K.make K.answers_over) w.core.history (map seat_value w.seats.items) };
 }
 
 impl<K: Start> World<K> {
@@ -62,7 +62,7 @@ impl<K: Start> World<K> {
     /// What holds of every world: the history is legal, no commit has touched the opening files, each entry is of one of
     /// the clients, and what each client was told is so. It does nothing.
     pub fn stays_honest(&self)
-        ensures { IsWorld (λ files. IsAnswer K.Key.cmp (values_of (K.given files)) K.make K.answer_over) self.now.history self.now.seats }
+        ensures { IsWorld (λ files. IsAnswer K.Key.cmp (values_of (K.given files)) K.make K.answers_over) self.now.history self.now.seats }
     {
         // What the type keeps is known where one of its fields is looked at.
         let _ = &self.core;
@@ -134,7 +134,7 @@ impl<K: Start> World<K> {
         mode: Mode,
     ) -> Result<(), NoMemory>
         requires may { MayAsk self.old client command mode None }
-        ensures after { OnOk result (AfterAsk (λ files. IsAnswer K.Key.cmp (values_of (K.given files)) K.make K.answer_over) self.old client command query budget mode None self.new) }
+        ensures after { OnOk result (AfterAsk (λ files. IsAnswer K.Key.cmp (values_of (K.given files)) K.make K.answers_over) self.old client command query budget mode None self.new) }
         ensures unchanged { OnErr result (self.new ≡ self.old) }
     {
         let seat = &mut self.seats[client as usize - 1];
@@ -167,7 +167,7 @@ impl<K: Start> World<K> {
         newer: u64,
     ) -> Result<(), NoMemory>
         requires may { MayAsk self.old client command mode (Some newer) }
-        ensures after { OnOk result (AfterAsk (λ files. IsAnswer K.Key.cmp (values_of (K.given files)) K.make K.answer_over) self.old client command query budget mode (Some newer) self.new) }
+        ensures after { OnOk result (AfterAsk (λ files. IsAnswer K.Key.cmp (values_of (K.given files)) K.make K.answers_over) self.old client command query budget mode (Some newer) self.new) }
         ensures unchanged { OnErr result (self.new ≡ self.old) }
     {
         let seat = &mut self.seats[client as usize - 1];
@@ -220,7 +220,7 @@ impl<K: Start> Drop for World<K> {
 pub fn step<K: Start>(alloc: Global, world: &mut World<K>, event: Event<K>) -> Result<(), NoMemory>
     requires allowed { MayCome world.old event }
     requires sound { BringsSound (record { cmp = K.Key.cmp; given = K.given; make = K.make; ranked = K.ranked; serves = K.serves }) (λ fresh. fresh.memos) world.old event }
-    ensures after { OnOk result (Follows (λ files. IsAnswer K.Key.cmp (values_of (K.given files)) K.make K.answer_over) K.Key.cmp (λ fresh. fresh.memos) world.old event world.new) }
+    ensures after { OnOk result (Follows (λ files. IsAnswer K.Key.cmp (values_of (K.given files)) K.make K.answers_over) K.Key.cmp (λ fresh. fresh.memos) world.old event world.new) }
     ensures unchanged { OnErr result (world.new ≡ world.old) }
 {
     match event {

@@ -15,8 +15,8 @@ D g = record { cmp = g.K.Key.Ord.cmp; given = g.K.Keyed.given; make = g.K.Kinds.
 
 pub asked_again-requires-clause-answer : goal.asked_again-requires-clause-answer
 asked_again-requires-clause-answer g c =
-    let told = subst (λ (r : Result Answer Halt). IfOk r (λ answer. IsAnswer (D g).cmp (values_of ((D g).given (newest_files c.args.core.now.history))) (D g).make g.K.Kinds.answer_over c.args.query.now c.args.budget answer)) c.in-Ok.is c.answered-first.ensures.answer in
-    subst (λ (h : HistoryValue). IsAnswer (D g).cmp (values_of ((D g).given (newest_files h))) (D g).make g.K.Kinds.answer_over c.args.query.now c.args.budget c.in-Ok.first) (sym c.answered-first.ensures.history) told
+    let told = subst (λ (r : Result Answer Halt). IfOk r (λ answer. IsAnswer (D g).cmp (values_of ((D g).given (newest_files c.args.core.now.history))) (D g).make g.K.Kinds.answers_over c.args.query.now c.args.budget answer)) c.in-Ok.is c.answered-first.ensures.answer in
+    subst (λ (h : HistoryValue). IsAnswer (D g).cmp (values_of ((D g).given (newest_files h))) (D g).make g.K.Kinds.answers_over c.args.query.now c.args.budget c.in-Ok.first) (sym c.answered-first.ensures.history) told
 
 pub asked_again-requires-clause-done : goal.asked_again-requires-clause-done
 asked_again-requires-clause-done g c = λ table is done k f not asks.
@@ -28,7 +28,7 @@ asked_again-requires-clause-done g c = λ table is done k f not asks.
     subst (λ (h : HistoryValue). IsUpToDate (D g) (newest_files h) [] memos k f) (sym same) (told done k f not asks)
 
 pub returns-in-Ok-clause-first : goal.returns-in-Ok-clause-first
-returns-in-Ok-clause-first g c = subst (λ (h : HistoryValue). IfOk c.asked_again.result.0 (λ twice. IsAnswer (D g).cmp (values_of ((D g).given (newest_files h))) (D g).make g.K.Kinds.answer_over c.args.query.now c.args.budget twice.first)) c.answered-first.ensures.history c.asked_again.ensures.first
+returns-in-Ok-clause-first g c = subst (λ (h : HistoryValue). IfOk c.asked_again.result.0 (λ twice. IsAnswer (D g).cmp (values_of ((D g).given (newest_files h))) (D g).make g.K.Kinds.answers_over c.args.query.now c.args.budget twice.first)) c.answered-first.ensures.history c.asked_again.ensures.first
 
 pub returns-in-Ok-clause-second : goal.returns-in-Ok-clause-second
-returns-in-Ok-clause-second g c = subst (λ (h : HistoryValue). IfOk c.asked_again.result.0 (λ twice. IsAnswer (D g).cmp (values_of ((D g).given (newest_files h))) (D g).make g.K.Kinds.answer_over c.args.query.now c.args.budget twice.second)) c.answered-first.ensures.history c.asked_again.ensures.second
+returns-in-Ok-clause-second g c = subst (λ (h : HistoryValue). IfOk c.asked_again.result.0 (λ twice. IsAnswer (D g).cmp (values_of ((D g).given (newest_files h))) (D g).make g.K.Kinds.answers_over c.args.query.now c.args.budget twice.second)) c.answered-first.ensures.history c.asked_again.ensures.second

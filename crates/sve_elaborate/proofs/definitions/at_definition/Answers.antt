@@ -22,9 +22,9 @@ returns-in_err-elements_before g c =
     let d = c.args.def.now in
     let before : List ChunkElement → Plan Reply (List ChunkElement) = λ es. each (element_of d.file) (range_with_len 0 d.chunk) es in
     let own = ask (ElementOf d.file d.chunk) in
-    let next : List ChunkElement → Plan Reply Facts = λ es. and_then own (of_element c.args.index.now c.args.spec.now d es) in
+    let next : List ChunkElement → Plan Reply Facts = λ es. and_then own (of_element c.args.extent c.args.index.now c.args.spec.now d es) in
     leaves_with s g.met.W.Look.keeps_itself g.met.W.Look.keeps_on c.elements_before.new.world c.args.fuel.now (before c.new-elements.result.items) next c.in_err-elements_before.field-0.0 r.0 c.from_residual.result r.1 r.2
-    (rests s g.met.W.Look.keeps_itself g.met.W.Look.keeps_on (and_then (before c.new-elements.result.items) next) (begins s g.met.W.Look.keeps_itself g.met.W.Look.keeps_on c.args.world.now c.args.fuel.now (at_definition c.args.index.now c.args.spec.now d) c.requires)
+    (rests s g.met.W.Look.keeps_itself g.met.W.Look.keeps_on (and_then (before c.new-elements.result.items) next) (begins s g.met.W.Look.keeps_itself g.met.W.Look.keeps_on c.args.world.now c.args.fuel.now (at_definition c.args.extent c.args.index.now c.args.spec.now d) c.requires)
     (ap (λ es. and_then (before es) next) (sym c.new-elements.ensures.items))) c.in_err-elements_before.ensures
 
 pub returns-in_err-own : goal.returns-in_err-own
@@ -34,10 +34,10 @@ returns-in_err-own g c =
     let d = c.args.def.now in
     let before : List ChunkElement → Plan Reply (List ChunkElement) = λ es. each (element_of d.file) (range_with_len 0 d.chunk) es in
     let own = ask (ElementOf d.file d.chunk) in
-    let next : List ChunkElement → Plan Reply Facts = λ es. and_then own (of_element c.args.index.now c.args.spec.now d es) in
-    leaves_with s g.met.W.Look.keeps_itself g.met.W.Look.keeps_on c.ask_element.new.world c.args.fuel.now own (of_element c.args.index.now c.args.spec.now d c.elements_before.new.elements.items) c.in_err-own.field-0.0 r.0 c.from_residual-in_err-own.result r.1 r.2
+    let next : List ChunkElement → Plan Reply Facts = λ es. and_then own (of_element c.args.extent c.args.index.now c.args.spec.now d es) in
+    leaves_with s g.met.W.Look.keeps_itself g.met.W.Look.keeps_on c.ask_element.new.world c.args.fuel.now own (of_element c.args.extent c.args.index.now c.args.spec.now d c.elements_before.new.elements.items) c.in_err-own.field-0.0 r.0 c.from_residual-in_err-own.result r.1 r.2
     (goes_on s g.met.W.Look.keeps_itself g.met.W.Look.keeps_on (before c.new-elements.result.items) next
-    (rests s g.met.W.Look.keeps_itself g.met.W.Look.keeps_on (and_then (before c.new-elements.result.items) next) (begins s g.met.W.Look.keeps_itself g.met.W.Look.keeps_on c.args.world.now c.args.fuel.now (at_definition c.args.index.now c.args.spec.now d) c.requires)
+    (rests s g.met.W.Look.keeps_itself g.met.W.Look.keeps_on (and_then (before c.new-elements.result.items) next) (begins s g.met.W.Look.keeps_itself g.met.W.Look.keeps_on c.args.world.now c.args.fuel.now (at_definition c.args.extent c.args.index.now c.args.spec.now d) c.requires)
     (ap (λ es. and_then (before es) next) (sym c.new-elements.ensures.items))) c.elements_before.new.elements.items c.in_ok-elements_before.ensures) c.in_err-own.ensures
 
 pub returns : goal.returns
@@ -46,12 +46,12 @@ returns g c =
     let d = c.args.def.now in
     let before : List ChunkElement → Plan Reply (List ChunkElement) = λ es. each (element_of d.file) (range_with_len 0 d.chunk) es in
     let own = ask (ElementOf d.file d.chunk) in
-    let found : List ChunkElement → Option Element → Plan Reply Facts = λ es. of_element c.args.index.now c.args.spec.now d es in
+    let found : List ChunkElement → Option Element → Plan Reply Facts = λ es. of_element c.args.extent c.args.index.now c.args.spec.now d es in
     let next : List ChunkElement → Plan Reply Facts = λ es. and_then own (found es) in
     ends s g.met.W.Look.keeps_itself g.met.W.Look.keeps_on c.of_element.new.world c.of_element.new.fuel (found c.as_slice.result.now (element_in c.in_ok-own.own)) _
     (rests s g.met.W.Look.keeps_itself g.met.W.Look.keeps_on (found c.as_slice.result.now (element_in c.in_ok-own.own))
     (goes_on s g.met.W.Look.keeps_itself g.met.W.Look.keeps_on own (found c.elements_before.new.elements.items)
     (goes_on s g.met.W.Look.keeps_itself g.met.W.Look.keeps_on (before c.new-elements.result.items) next
-    (rests s g.met.W.Look.keeps_itself g.met.W.Look.keeps_on (and_then (before c.new-elements.result.items) next) (begins s g.met.W.Look.keeps_itself g.met.W.Look.keeps_on c.args.world.now c.args.fuel.now (at_definition c.args.index.now c.args.spec.now d) c.requires)
+    (rests s g.met.W.Look.keeps_itself g.met.W.Look.keeps_on (and_then (before c.new-elements.result.items) next) (begins s g.met.W.Look.keeps_itself g.met.W.Look.keeps_on c.args.world.now c.args.fuel.now (at_definition c.args.extent c.args.index.now c.args.spec.now d) c.requires)
     (ap (λ es. and_then (before es) next) (sym c.new-elements.ensures.items))) c.elements_before.new.elements.items c.in_ok-elements_before.ensures) (element_in c.in_ok-own.own) c.in_ok-own.ensures)
     (ap (λ es. found es (element_in c.in_ok-own.own)) (sym c.as_slice.ensures.value))) c.of_element.ensures

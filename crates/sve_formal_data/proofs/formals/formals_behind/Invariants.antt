@@ -1,6 +1,6 @@
 -- The arguments so far, and behind them those that are left, are all of them.
 use Rattle.std.proofs.Common.{◌≡◌, drop}
-use Rattle.sve_scoped.specs.Known.{told_in}
+use Rattle.sve_data.specs.Known.{told_in}
 use Rattle.sve_formal_data.specs.Formals.{formals_behind}
 use Rattle.sve_formal_data.proofs.formals.formals_behind.Given as goal
 

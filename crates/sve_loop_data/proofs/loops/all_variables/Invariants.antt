@@ -1,7 +1,7 @@
 -- The scope so far is what the variables so far make of the first.
 use Rattle.std.proofs.Common.{◌≡◌, take}
-use Rattle.sve_used.specs.Used.{name_used}
-use Rattle.sve_scoped.specs.Known.{told_in}
+use Rattle.sve_data.specs.Used.{name_used}
+use Rattle.sve_data.specs.Known.{told_in}
 use Rattle.sve_loop_data.specs.Loops.{all_variables}
 use Rattle.sve_loop_data.proofs.loops.all_variables.Given as goal
 

@@ -27,7 +27,7 @@ work-requires-clause-settled g c =
 
 pub returns-clause-told : goal.returns-clause-told
 returns-clause-told g c =
-    let answers = answers_by g.K.Key.Ord.cmp g.K.Keyed.given g.K.Kinds.make g.K.Kinds.answer_over in
+    let answers = answers_by g.K.Key.Ord.cmp g.K.Keyed.given g.K.Kinds.make g.K.Kinds.answers_over in
     let terms = c.args.terms in
     let opening = g.P.Plan.opening in
     let table = g.P.Plan.table in

@@ -19,7 +19,7 @@ run_clients-requires-sync-C g c κs within =
 
 pub all_told-requires : goal.all_told-requires
 all_told-requires g c =
-    let answers = answers_by g.K.Key.Ord.cmp g.K.Keyed.given g.K.Kinds.make g.K.Kinds.answer_over in
+    let answers = answers_by g.K.Key.Ord.cmp g.K.Keyed.given g.K.Kinds.make g.K.Kinds.answers_over in
     let ended = c.in_ok-ended.ended in
     let all = c.in_ok-ended.ensures in
     record {
@@ -28,7 +28,7 @@ all_told-requires g c =
 
 pub returns : goal.returns
 returns g c =
-    let answers = answers_by g.K.Key.Ord.cmp g.K.Keyed.given g.K.Kinds.make g.K.Kinds.answer_over in
+    let answers = answers_by g.K.Key.Ord.cmp g.K.Keyed.given g.K.Kinds.make g.K.Kinds.answers_over in
     let ended = c.in_ok-ended.ended in
     let all = c.in_ok-ended.ensures in
     let honest = all_honest answers c.args.terms c.args.files c.args.clients.now ended.history all.history c.command_count.result ended.left all.count all.left c.in_ok-all.all.items c.in_ok-all.ensures in

@@ -1,10 +1,6 @@
 use denote.Param.Send.{sendable}
-use Rattle.std.proofs.Common.{◌≡◌, ℕ, List, Bool, if◌then◌else◌, ap, sym, ◌∙◌, subst}
-use Rattle.std.proofs.Math.Dec.{leb-zero}
-use Rattle.std.specs.Prelude.{nat_le}
+use Rattle.std.proofs.Common.{List, sym, subst}
 use Rattle.sve_command.specs.declared.commands.Command.{Command}
-use Rattle.sve_store.specs.declared.answer.Answer.{Answer}
-use Rattle.sve_store.specs.declared.answer.Answer.TheVariants.{Done, Spent}
 use Rattle.sve_crossing.proofs.Crossing.{value_send, value_sync}
 use Rattle.sve_runner.specs.declared.terms.Terms.{Terms}
 use Rattle.sve_runner.specs.Honest.{told_entries, files_of, AreHonest}
@@ -13,10 +9,6 @@ use Rattle.sve_serve.specs.Answers.{IsAnswerAt}
 use Rattle.sve_serve.proofs.Answered.{are_honest_for}
 use Rattle.sve_serve.proofs.Sessions.{are_few}
 use Rattle.sve_serve.proofs.running.run.Goals as goal
-
--- what costs nothing is within every budget
-done_within : (budget : ℕ) (lines : List (List ℕ)) → ◌≡◌ {A = Answer} (Done lines) (if nat_le 0 budget then Done lines else Spent)
-done_within budget lines = sym (ap (λ (b : Bool). if b then Done lines else Spent) (leb-zero budget))
 
 -- threads share the values of keys
 pub run_script-requires-send-K-Value : goal.run_script-requires-send-K-Value
@@ -33,6 +25,6 @@ returns g c =
     let law = c.answers_are_those_of_the_files.ensures in
     let files = c.args.script.files in
     let ran = c.in_ok-ran.ran in
-    let told = are_honest_for _ IsAnswerAt c.terms_of.result files c.items.result.now (told_entries ran.history) ran.records (λ r query budget answer is. law (files_of IsAnswerAt c.terms_of.result files c.items.result.now (told_entries ran.history) r) query budget answer is ∙ done_within budget _) c.in_ok-ran.ensures in
+    let told = are_honest_for _ IsAnswerAt c.terms_of.result files c.items.result.now (told_entries ran.history) ran.records (λ r query budget answer is. law (files_of IsAnswerAt c.terms_of.result files c.items.result.now (told_entries ran.history) r) query budget answer is) c.in_ok-ran.ensures in
     subst (λ (terms : Terms). AreHonest IsAnswerAt terms files c.args.script.clients (told_entries ran.history) ran.records) c.terms_of.ensures
     (subst (λ (clients : List (List Command)). AreHonest IsAnswerAt c.terms_of.result files clients (told_entries ran.history) ran.records) c.items.ensures told)

@@ -8,7 +8,7 @@ use Rattle.sve_session.proofs.work.outcome.Goals as goal
 
 pub returns-in_ok-answer-in-Pinned-clause-outcome : goal.returns-in_ok-answer-in-Pinned-clause-outcome
 returns-in_ok-answer-in-Pinned-clause-outcome g c =
-    let answers = IsAnswer g.K.Key.Ord.cmp (values_of (g.K.Keyed.given c.args.lent.now.snapshot.files)) g.K.Kinds.make g.K.Kinds.answer_over c.args.query.now c.args.budget in
+    let answers = IsAnswer g.K.Key.Ord.cmp (values_of (g.K.Keyed.given c.args.lent.now.snapshot.files)) g.K.Kinds.make g.K.Kinds.answers_over c.args.query.now c.args.budget in
     let r = c.args.lent.now.snapshot.revision in
     let pass = c.args.pass.now in
     let may : MayAnswer c.args.mode r pass pass = subst (λ (m : Mode). MayAnswer m r pass pass) (sym c.in-Pinned.is) tt in
@@ -16,7 +16,7 @@ returns-in_ok-answer-in-Pinned-clause-outcome g c =
 
 pub returns-in-Ok-clause-outcome : goal.returns-in-Ok-clause-outcome
 returns-in-Ok-clause-outcome g c =
-    let answers = IsAnswer g.K.Key.Ord.cmp (values_of (g.K.Keyed.given c.args.lent.now.snapshot.files)) g.K.Kinds.make g.K.Kinds.answer_over c.args.query.now c.args.budget in
+    let answers = IsAnswer g.K.Key.Ord.cmp (values_of (g.K.Keyed.given c.args.lent.now.snapshot.files)) g.K.Kinds.make g.K.Kinds.answers_over c.args.query.now c.args.budget in
     let r = c.args.lent.now.snapshot.revision in
     let before = c.args.pass.now in
     let after = c.latest_answer.new.pass in

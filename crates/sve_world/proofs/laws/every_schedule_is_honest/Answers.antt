@@ -11,5 +11,5 @@ D g = record { cmp = g.K.Key.Ord.cmp; given = g.K.Keyed.given; make = g.K.Kinds.
 
 pub returns : goal.returns
 returns g c = λ opening clients memos_of events after untouched schedule.
-    schedules_hold (D g) memos_of (λ files. IsAnswer g.K.Key.Ord.cmp (values_of (g.K.Keyed.given files)) g.K.Kinds.make g.K.Kinds.answer_over) (λ a b is. (g.met.K.Keyed.one_key a b).0 is) (λ k. (g.met.K.Keyed.one_key k k).1 refl)
+    schedules_hold (D g) memos_of (λ files. IsAnswer g.K.Key.Ord.cmp (values_of (g.K.Keyed.given files)) g.K.Kinds.make g.K.Kinds.answers_over) (λ a b is. (g.met.K.Keyed.one_key a b).0 is) (λ k. (g.met.K.Keyed.one_key k k).1 refl)
     opening clients events after untouched schedule

@@ -7,4 +7,4 @@ use Rattle.sve_world.proofs.world.World.stays_honest.Goals as goal
 
 pub returns : goal.returns
 returns g c =
-    subst (λ (w : WorldValue g.row.K-Query.Denot g.row.K-Key.Denot g.row.K-Value.Denot). IsWorld (λ files. IsAnswer g.K.Key.Ord.cmp (values_of (g.K.Keyed.given files)) g.K.Kinds.make g.K.Kinds.answer_over) w.history w.seats) c.self.view_is c.self.invariant
+    subst (λ (w : WorldValue g.row.K-Query.Denot g.row.K-Key.Denot g.row.K-Value.Denot). IsWorld (λ files. IsAnswer g.K.Key.Ord.cmp (values_of (g.K.Keyed.given files)) g.K.Kinds.make g.K.Kinds.answers_over) w.history w.seats) c.self.view_is c.self.invariant

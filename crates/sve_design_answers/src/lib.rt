@@ -1,0 +1,11 @@
+//! The answers of the queries about the instances of a design: one instance, all of them, and what a name is declared as there.
+#![tactic(auto)]
+
+mod answers;
+mod finding;
+mod lines;
+mod places;
+mod queries;
+mod tree;
+
+pub use queries::design_answer;

@@ -1,0 +1,9 @@
+//! What a plain name stands for at the end of the way along a path: in the scope of an instance or of a generate block, and in those around
+//! it.
+#![tactic(auto)]
+
+mod around;
+mod named;
+mod scopes;
+
+pub use named::named_at;
