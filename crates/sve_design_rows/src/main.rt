@@ -6,9 +6,11 @@
 #![tactic(auto)]
 
 mod finds;
+mod names;
 mod walks;
 
 use finds::find_row;
+use names::{instances_row, resolve_row};
 use std::alloc::Global;
 use std::io;
 use sve_bytes::NoMemory;
@@ -26,6 +28,8 @@ impl Table for Designs {
             "walk" => answer_of(walk_row(alloc, row)),
             "count" => answer_of(count_row(alloc, row)),
             "find" => answer_of(find_row(alloc, row)),
+            "instances" => answer_of(instances_row(alloc, row)),
+            "resolve" => answer_of(resolve_row(alloc, row)),
             _ => Ok(None),
         }
     }

@@ -1,4 +1,4 @@
-//! A table of rows of the lines of answers about designs. Each line of the input is answered by one line: the line itself, `=>`, and
+//! A table of rows of the lines of answers about designs, and of lint. Each line of the input is answered by one line: the line itself, `=>`, and
 //! what came of it. A line with nothing on it, or that begins with `#`, is answered by itself. `no such row` is the answer to a line of
 //! no form.
 //!
@@ -7,10 +7,12 @@
 #![tactic(auto)]
 
 mod lines;
+mod lint;
 mod shown;
 mod trees;
 
 use lines::{instance_row, param_row, type_row};
+use lint::lint_row;
 use shown::Shown;
 use std::alloc::Global;
 use std::io;
@@ -32,6 +34,7 @@ impl Table for Answers {
             "last" => answer_of(instance_row(alloc, row, Shown::Last)),
             "type" => answer_of(type_row(alloc, row)),
             "param" => answer_of(param_row(alloc, row)),
+            "lint" => answer_of(lint_row(alloc, row)),
             _ => Ok(None),
         }
     }

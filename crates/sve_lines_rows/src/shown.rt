@@ -15,7 +15,7 @@ pub enum Shown {
 }
 
 /// The lines, parted by ` / `.
-fn all_lines(alloc: Global, lines: &[List<u8>]) -> Result<String, NoMemory> {
+pub fn all_lines(alloc: Global, lines: &[List<u8>]) -> Result<String, NoMemory> {
     let mut out = String::new(alloc);
     for (place, line) in lines.iter().enumerate() {
         if place > 0 {

@@ -3,6 +3,7 @@
 #![tactic(auto)]
 
 mod bodies;
+mod declared;
 mod reading;
 mod things;
 mod types;

@@ -6,21 +6,27 @@
 //! - `#NAME=VALUE`: a parameter with this value; a string is written `#NAME="BYTES"`.
 //! - `>NAME:TYPE`, `<NAME:TYPE`, `*NAME:TYPE`: an input, an output, an inout of this type.
 //! - `&NAME:INTERFACE` or `&NAME:INTERFACE.MODPORT`: an interface port.
+//! - `=PATH:TYPE`: a variable of this type that is declared at this path; `=PATH:instance`: an instance that is declared and no more.
+//! - `^NAME`: a name of the package `p` that is imported into the scope of the module.
+//!
+//! Instances and generate blocks are declared by the last name of their paths in the scope around them, where the body has this scope.
 use crate::bodies::{Entry, Listed};
+use crate::declared::{Thing, declare_all, spot};
 use crate::things::{Unread, name, path, value};
 use crate::types::type_of;
 use std::alloc::Global;
 use std::sync::Arc;
-use sve_bytes::{Dir, List, Name, Path};
+use sve_bytes::{Dir, List, Name, NoMemory, Path};
 use sve_facts::{BodyScope, Child, Facts, ParameterValue, Port};
 use sve_row::{fields_of, offset_of, words_of};
-use sve_scope::{FaceName, Scope, SharedType};
+use sve_scope::{Explicit, FaceName, Scope, SharedType, What};
 use sve_spec::Spec;
 
 /// What was read of a body.
 #[derive(Drop)]
 struct Parts {
     scopes: Vec<BodyScope>,
+    things: Vec<Thing>,
     params: Vec<ParameterValue>,
     ports: Vec<Port>,
     children: Vec<Child>,
@@ -117,6 +123,43 @@ fn directed(word: &str) -> Option<(Dir, &str)> {
     }
 }
 
+/// Notes what is declared at the path that a word writes.
+fn note(alloc: Global, parts: &mut Parts, at: &str, what: What, token: u32) -> Result<(), Unread> {
+    let path = path(alloc, at)?;
+    parts.things.push(Thing { path, what, token })?;
+    Ok(())
+}
+
+/// Notes what a word declares.
+fn note_thing(alloc: Global, parts: &mut Parts, word: &str, token: u32) -> Result<(), Unread> {
+    let (at, written) = word.split_once(":").ok_or(Unread::NoForm)?;
+    let what = if written == "instance" {
+        What::Instance
+    } else {
+        What::Variable(shared_type(alloc, written)?)
+    };
+    note(alloc, parts, at, what, token)
+}
+
+/// Imports a name of the package `p` into the scope of a module.
+fn import(
+    alloc: Global,
+    parts: &mut Parts,
+    module: &Name,
+    word: &str,
+    token: u32,
+) -> Result<(), Unread> {
+    let import = Explicit {
+        name: name(alloc, word)?,
+        from: name(alloc, "p")?,
+        at: spot(module, token)?,
+    };
+    if let Some(own) = parts.scopes.first_mut() {
+        own.scope.import_name(import)?;
+    }
+    Ok(())
+}
+
 /// Adds what a word with a mark in front writes; whether it has one.
 fn is_marked(
     alloc: Global,
@@ -128,6 +171,15 @@ fn is_marked(
     if let Some(at) = word.strip_prefix("+") {
         let block = scope(alloc, module, path(alloc, at)?)?;
         parts.scopes.push(block)?;
+        note(alloc, parts, at, What::Block, token)?;
+        return Ok(true);
+    }
+    if let Some(rest) = word.strip_prefix("=") {
+        note_thing(alloc, parts, rest, token)?;
+        return Ok(true);
+    }
+    if let Some(rest) = word.strip_prefix("^") {
+        import(alloc, parts, module, rest, token)?;
         return Ok(true);
     }
     if let Some(rest) = word.strip_prefix("#") {
@@ -158,7 +210,7 @@ fn add(
     }
     let (at, called) = word.split_once(":").ok_or(Unread::NoForm)?;
     parts.children.push(child(alloc, at, called, token)?)?;
-    Ok(())
+    note(alloc, parts, at, What::Instance, token)
 }
 
 /// What the words of a body write.
@@ -172,6 +224,7 @@ fn facts(alloc: Global, module: &Name, words: &[&str]) -> Result<Facts, Unread> 
     )?;
     let mut parts = Parts {
         scopes: vec![in alloc; own]?,
+        things: Vec::new(alloc),
         params: Vec::new(alloc),
         ports: Vec::new(alloc),
         children: Vec::new(alloc),
@@ -181,18 +234,20 @@ fn facts(alloc: Global, module: &Name, words: &[&str]) -> Result<Facts, Unread> 
         token = token.saturating_add(1);
         add(alloc, &mut parts, module, word, token)?;
     }
-    Ok(facts_of(alloc, parts))
+    Ok(facts_of(alloc, module, parts)?)
 }
 
 /// What was read of a body.
-fn facts_of(alloc: Global, parts: Parts) -> Facts {
+fn facts_of(alloc: Global, module: &Name, parts: Parts) -> Result<Facts, NoMemory> {
     let Parts {
-        scopes,
+        mut scopes,
+        things,
         params,
         ports,
         children,
     } = parts;
-    Facts {
+    declare_all(module, &mut scopes, things)?;
+    Ok(Facts {
         scopes: List::of(scopes),
         params: List::of(params),
         ports: List::of(ports),
@@ -200,7 +255,7 @@ fn facts_of(alloc: Global, parts: Parts) -> Facts {
         hierarchical: List::of(Vec::new(alloc)),
         nets: List::of(Vec::new(alloc)),
         notes: List::of(Vec::new(alloc)),
-    }
+    })
 }
 
 /// The body that a field writes.

@@ -1,0 +1,3 @@
+pub mod Rules
+pub mod Meanings
+pub mod Lines
