@@ -16,8 +16,8 @@ use Rattle.sve_facts_lines.specs.Things.{param_lines, type_lines}
 use Rattle.sve_tree_lines.specs.Tree.{tree_lines}
 use Rattle.sve_store.specs.declared.answer.Answer.{Answer}
 use Rattle.sve_store.specs.declared.answer.Answer.TheVariants as is_answer
-use Rattle.sve_project.specs.Projects.{ProjectValue}
-use Rattle.sve_project.specs.Replies.{design_of}
+use Rattle.sve_named.specs.Projects.{ProjectValue}
+use Rattle.sve_named.specs.Replies.{design_of}
 use Rattle.sve_named.specs.Named.{named_at}
 use Rattle.sve_design_answers.specs.Paths.{IsPathOf, plain_name}
 use Rattle.sve_design_answers.specs.Places.{instance_place, place_of}

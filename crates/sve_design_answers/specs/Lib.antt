@@ -1,4 +1,5 @@
 pub mod Paths
 pub mod Places
 pub mod Answers
+pub mod Resolving
 pub mod Queries

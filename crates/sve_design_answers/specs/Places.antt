@@ -10,7 +10,7 @@ use Rattle.sve_scope.specs.Spots.{spot}
 use Rattle.sve_design.specs.Walk.{definition_of}
 use Rattle.sve_find.specs.Ends.{FoundValue}
 use Rattle.sve_front.specs.Places.{token_place_in}
-use Rattle.sve_project.specs.Projects.{ProjectValue, tree_in}
+use Rattle.sve_named.specs.Projects.{ProjectValue, tree_in}
 
 module _ (p : ProjectValue) where
   -- the place of a token of a chunk

@@ -9,7 +9,7 @@ use std::alloc::Global;
 use sve_bytes::{NoMemory, Path};
 use sve_find::Find;
 use sve_listing::none_lines;
-use sve_project::Project;
+use sve_named::Project;
 use sve_report::Lines;
 use sve_store::Answer;
 use sve_text::Files;

@@ -2,7 +2,7 @@
 ghost use Rattle.std.specs.Prelude.{◌≡◌, IfOk, option_map};
 ghost use Rattle.sve_find.specs.Ends.{find_value};
 ghost use Rattle.sve_find.specs.Along.{find};
-ghost use Rattle.sve_project.specs.Replies.{design_of};
+ghost use Rattle.sve_named.specs.Replies.{design_of};
 ghost use Rattle.sve_design_answers.specs.Paths.{IsPathOf, plain_name};
 ghost use Rattle.sve_design_answers.specs.Answers.{found_on};
 
@@ -10,7 +10,7 @@ use std::alloc::{AllocError, Global};
 use sve_bytes::{BadPath, Name, NoMemory, Path};
 use sve_find::{Find, find};
 use sve_io::Halt;
-use sve_project::{Elaborated, Project};
+use sve_named::{Elaborated, Project};
 
 /// The path that a text spells, where it spells one.
 pub(crate) fn path_of(alloc: Global, text: &[u8]) -> Result<Option<Path>, NoMemory>

@@ -13,14 +13,13 @@ use sve_diag::Place;
 use sve_facts_lines::{instance_lines, param_lines, type_lines};
 use sve_find::Found;
 use sve_listing::none_lines;
-use sve_named::named_at;
-use sve_project::Project;
+use sve_named::{Project, named_at};
 use sve_report::Lines;
 use sve_scope::Declared;
 use sve_text::Files;
 
 /// The bytes of the text of a file, which has none where the file is not there.
-fn bytes_of(text: &Option<Arc<List<u8>>>) -> &[u8]
+pub(crate) fn bytes_of(text: &Option<Arc<List<u8>>>) -> &[u8]
     requires { IfSome text.now (λ shared. IsInLimit (arc_value shared)) }
     ensures bytes { result.now ≡ unwrap_or (option_map arc_value text.now) [] }
     ensures small { length result.now + 1 < 2 ^ 32 }

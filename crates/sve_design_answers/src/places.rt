@@ -9,7 +9,7 @@ use sve_bytes::{Name, NoMemory};
 use sve_diag::Place;
 use sve_find::Found;
 use sve_index::Def;
-use sve_project::Project;
+use sve_named::Project;
 use sve_scope::Spot;
 
 /// The place of a token of a chunk.
@@ -47,7 +47,7 @@ fn module_name(project: &Project, definition: &Name) -> Result<Option<Spot>, NoM
 }
 
 /// The place of the name of a module or an interface, where that is defined.
-fn module_place(project: &Project, definition: &Name) -> Result<Option<Place>, NoMemory>
+pub(crate) fn module_place(project: &Project, definition: &Name) -> Result<Option<Place>, NoMemory>
     ensures { IfOk result (λ place. place ≡ option_and_then (place_of project.now) (module_name project.now definition.now)) }
 {
     match module_name(project, definition)? {

@@ -3,12 +3,13 @@ ghost use Rattle.std.specs.Prelude.{IfOk};
 ghost use Rattle.sve_design_answers.specs.Queries.{IsDesignAnswer, OverProject};
 
 use crate::answers::{answer_of, instance_answer, param_answer, type_answer};
+use crate::resolving::resolve_answer;
 use crate::tree::tree_answer;
 use std::alloc::Global;
 use sve_bytes::NoMemory;
 use sve_command::Query;
 use sve_listing::none_lines;
-use sve_project::Project;
+use sve_named::Project;
 use sve_store::Answer;
 use sve_text::Files;
 
@@ -31,11 +32,12 @@ fn over_project(
         Query::Param { path, name } => {
             param_answer(alloc, project, path.items(), name.items(), budget)
         }
-        Query::File { .. }
-        | Query::Expand { .. }
-        | Query::Tops
-        | Query::Resolve { .. }
-        | Query::Diagnostics => answer_of(alloc, none_lines(alloc)?),
+        Query::Resolve { path, name } => {
+            resolve_answer(alloc, files, project, path.items(), name.items(), budget)
+        }
+        Query::File { .. } | Query::Expand { .. } | Query::Tops | Query::Diagnostics => {
+            answer_of(alloc, none_lines(alloc)?)
+        }
     }
 }
 

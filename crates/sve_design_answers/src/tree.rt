@@ -1,7 +1,7 @@
 //! The answer about all instances of a design.
 ghost use Rattle.std.specs.Prelude.{◌≡◌, IfOk};
 ghost use Rattle.sve_design.specs.Walk.{walk, walk_value};
-ghost use Rattle.sve_project.specs.Replies.{design_of};
+ghost use Rattle.sve_named.specs.Replies.{design_of};
 ghost use Rattle.sve_design_answers.specs.Answers.{tree_answer};
 
 use crate::answers::answer_of;
@@ -9,12 +9,12 @@ use std::alloc::{AllocError, Global};
 use sve_bytes::NoMemory;
 use sve_design::{Walk, walk};
 use sve_io::Halt;
-use sve_project::{Elaborated, Project};
+use sve_named::{Elaborated, Project};
 use sve_store::Answer;
 use sve_tree_lines::tree_lines;
 
 /// All instances of the design, where the budget is enough for them.
-fn walked(alloc: Global, project: &Project, budget: u32) -> Result<Walk, NoMemory>
+pub(crate) fn walked(alloc: Global, project: &Project, budget: u32) -> Result<Walk, NoMemory>
     ensures { IfOk result (λ w. walk_value w ≡ walk (design_of project.now) budget) }
 {
     let mut bodies = Elaborated { project };

@@ -1,3 +1,4 @@
 pub mod Texts
 pub mod Instances
 pub mod Things
+pub mod Resolved

@@ -12,7 +12,7 @@ use sve_scope::{Constant, SharedType, What};
 use sve_types::{Ty, Value, four_state, signed, width};
 
 /// The word of a kind of declaration.
-fn kind_word(what: &What) -> &'static [u8]
+pub(crate) fn kind_word(what: &What) -> &'static [u8]
     ensures { result.now ≡ kind_word what.now }
 {
     match what {

@@ -1,2 +1,4 @@
 pub mod Scopes
 pub mod Named
+pub use Rattle.sve_project.specs.Projects
+pub use Rattle.sve_project.specs.Replies

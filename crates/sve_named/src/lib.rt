@@ -3,7 +3,10 @@
 #![tactic(auto)]
 
 mod around;
+mod located;
 mod named;
 mod scopes;
 
-pub use named::named_at;
+pub use located::{Located, Sought, Where};
+pub use named::{located_at, named_at};
+pub use sve_project::{Elaborated, Project};

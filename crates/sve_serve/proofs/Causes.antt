@@ -9,7 +9,6 @@ use Rattle.sve_serve.specs.declared.status.Status.{Status}
 use Rattle.sve_serve.specs.declared.status.Status.TheVariants.{Done, Usage, BadSession, ReadFault, WriteFault, TooLarge, NoMemory}
 use Rattle.sve_serve.specs.Endings.{Seen, IsReadUpTo, IsOutputForRead, HasWrittenOutput, Ends}
 use Rattle.sve_serve.specs.Runs.{max_session, usage_line, too_large_line, AreLeft, IsReportOf, IsRefusalOf, IsBad, IsOutputFor, WritesItsOutput, IsRunOver}
-use Rattle.sve_serve.specs.Unbuilt.{first_later}
 use Rattle.sve_words.specs.declared.request.Options.{Options}
 use Rattle.sve_words.specs.declared.request.Spoken.{Spoken}
 use Rattle.sve_words.specs.declared.request.Spoken.TheVariants.{Run, Usage as NoRun}
@@ -43,24 +42,19 @@ at_end before (Some rest) bytes loses all =
     let e : bytes ++ rest ≡ bytes = subst (λ (o : Option (List ℕ)). IfSome o (λ l. l ≡ bytes)) loses all in
     nothing rest (omega (arith, ap length e, length-append bytes rest))
 
--- bytes that are a session, all of which is answered, are not bad
-not_both : (bytes : List ℕ) (script : Script) → IsSession bytes script → first_later script.clients ≡ None → IsBad bytes → ⊥
-not_both bytes script session whole (inl no_json) = no_json session.0 session.1
-not_both bytes script session whole (inr (inl (path, misshapen))) = cc (session.1.1, misshapen.1.1, session.2, misshapen.2)
-not_both bytes script session whole (inr (inr (inl (which, number, beyond)))) = cc (session.1.1, beyond.1.1, session.2, beyond.2)
-not_both bytes script session whole (inr (inr (inr (path, later)))) =
-    let same : script ≡ later.0 = cc (session.1.1, later.1.1.1, session.2, later.1.2) in
-    let both : ◌≡◌ {A = Option (List ℕ)} None (Some path) = sym whole ∙ ap (λ (s : Script). first_later s.clients) same ∙ later.2 in
-    cc (both)
+-- bytes that are a session are not bad
+not_both : (bytes : List ℕ) (script : Script) → IsSession bytes script → IsBad bytes → ⊥
+not_both bytes script session (inl no_json) = no_json session.0 session.1
+not_both bytes script session (inr (inl (path, misshapen))) = cc (session.1.1, misshapen.1.1, session.2, misshapen.2)
+not_both bytes script session (inr (inr (which, number, beyond))) = cc (session.1.1, beyond.1.1, session.2, beyond.2)
 
 is_bad : (bytes text : List ℕ) → IsRefusalOf bytes text → IsBad bytes
 is_bad bytes text (inl r) = inl r.0
 is_bad bytes text (inr (inl (path, misshapen, line))) = inr (inl (path, misshapen))
-is_bad bytes text (inr (inr (inl (which, number, beyond, line)))) = inr (inr (inl (which, number, beyond)))
-is_bad bytes text (inr (inr (inr (path, later, line)))) = inr (inr (inr (path, later)))
+is_bad bytes text (inr (inr (which, number, beyond, line))) = inr (inr (which, number, beyond))
 
-not_refused : (bytes text : List ℕ) (script : Script) → IsSession bytes script → first_later script.clients ≡ None → IsRefusalOf bytes text → ⊥
-not_refused bytes text script session whole r = not_both bytes script session whole (is_bad bytes text r)
+not_refused : (bytes text : List ℕ) (script : Script) → IsSession bytes script → IsRefusalOf bytes text → ⊥
+not_refused bytes text script session r = not_both bytes script session (is_bad bytes text r)
 
 module _ (words : List (List ℕ)) (unread unwritten : Type 0) (s s' k k' : Seen) where
   -- the output for what was read is that for all bytes that the source has left, where it tells them, and else for some
@@ -194,20 +188,20 @@ module _ (words : List (List ℕ)) (unread unwritten : Type 0) (s s' k k' : Seen
   abbrev pub Smooth : List ℕ → Type 0
   Smooth bytes = IsRunOver words s.bytes bytes × (¬ HasRisen s.faults s'.faults) × (¬ HasRisen k.faults k'.faults)
 
-  pub answered : (bytes : List ℕ) (script : Script) → Smooth bytes → length bytes ≤ max_session → IsSession bytes script → first_later script.clients ≡ None → (result : Status) → Ends words unread unwritten s s' k k' result → (result ≡ Done) ⊎ (result ≡ NoMemory)
-  answered bytes script smooth small session whole Done ends = inl refl
-  answered bytes script smooth small session whole NoMemory ends = inr refl
-  answered bytes script smooth small session whole Usage ends = absurd (not_asked ends.1.0 smooth.0.0)
-  answered bytes script smooth small session whole BadSession ends = let (text, is_for) = gained_told BadSession bytes smooth.0.1 ends in absurd (not_refused bytes text script session whole is_for.2)
-  answered bytes script smooth small session whole TooLarge ends = let (text, is_for) = gained_told TooLarge bytes smooth.0.1 ends in absurd (omega (arith, small, is_for.1))
-  answered bytes script smooth small session whole ReadFault ends = absurd (smooth.1 ends.3)
-  answered bytes script smooth small session whole WriteFault ends = absurd (smooth.2 ends.3.1)
+  pub answered : (bytes : List ℕ) (script : Script) → Smooth bytes → length bytes ≤ max_session → IsSession bytes script → (result : Status) → Ends words unread unwritten s s' k k' result → (result ≡ Done) ⊎ (result ≡ NoMemory)
+  answered bytes script smooth small session Done ends = inl refl
+  answered bytes script smooth small session NoMemory ends = inr refl
+  answered bytes script smooth small session Usage ends = absurd (not_asked ends.1.0 smooth.0.0)
+  answered bytes script smooth small session BadSession ends = let (text, is_for) = gained_told BadSession bytes smooth.0.1 ends in absurd (not_refused bytes text script session is_for.2)
+  answered bytes script smooth small session TooLarge ends = let (text, is_for) = gained_told TooLarge bytes smooth.0.1 ends in absurd (omega (arith, small, is_for.1))
+  answered bytes script smooth small session ReadFault ends = absurd (smooth.1 ends.3)
+  answered bytes script smooth small session WriteFault ends = absurd (smooth.2 ends.3.1)
 
   pub refused : (bytes : List ℕ) → Smooth bytes → length bytes ≤ max_session → IsBad bytes → (result : Status) → Ends words unread unwritten s s' k k' result → (result ≡ BadSession) ⊎ (result ≡ NoMemory)
   refused bytes smooth small bad BadSession ends = inl refl
   refused bytes smooth small bad NoMemory ends = inr refl
   refused bytes smooth small bad Usage ends = absurd (not_asked ends.1.0 smooth.0.0)
-  refused bytes smooth small bad Done ends = let (text, is_for) = gained_told Done bytes smooth.0.1 ends in absurd (not_both bytes is_for.2.script is_for.2.session is_for.2.whole bad)
+  refused bytes smooth small bad Done ends = let (text, is_for) = gained_told Done bytes smooth.0.1 ends in absurd (not_both bytes is_for.2.script is_for.2.session bad)
   refused bytes smooth small bad TooLarge ends = let (text, is_for) = gained_told TooLarge bytes smooth.0.1 ends in absurd (omega (arith, small, is_for.1))
   refused bytes smooth small bad ReadFault ends = absurd (smooth.1 ends.3)
   refused bytes smooth small bad WriteFault ends = absurd (smooth.2 ends.3.1)

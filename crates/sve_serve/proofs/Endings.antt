@@ -1,11 +1,9 @@
 -- How a call ends, from its output and what was written of it.
-use Rattle.std.proofs.Common.{◌≡◌, ℕ, inl, inr, List, Result, Ok, Err, IfOk, sym, subst}
+use Rattle.std.proofs.Common.{ℕ, inl, inr, List, sym, subst}
 use Rattle.sve_serve.specs.declared.status.Status.{Status}
 use Rattle.sve_serve.specs.declared.status.Status.TheVariants.{Done, Usage, BadSession, ReadFault, WriteFault, TooLarge, NoMemory}
 use Rattle.sve_serve.specs.Endings.{Seen, IsReadWhole, IsOutputForRead, IsWrittenOrCutShort, HasWrittenOutput, Ends}
-use Rattle.sve_serve.specs.declared.serving.Reply.{Reply}
-use Rattle.sve_serve.specs.Runs.{IsRefusalOf, IsOutputForSession}
-use Rattle.sve_words.specs.declared.request.Options.{Options}
+use Rattle.sve_serve.specs.Runs.{IsOutputForSession}
 use Rattle.sve_serve.specs.Words.{IsRun}
 
 written_ends : (words : List (List ℕ)) (unread unwritten : Type 0) (s s' k k' : Seen) (status : Status) (text : List ℕ) → IsOutputForRead words unread s s' status text → HasWrittenOutput words unread s s' k k' status → Ends words unread unwritten s s' k k' status
@@ -30,9 +28,3 @@ session_output words unread s s' bytes TooLarge text asked whole reply = absurd 
 session_output words unread s s' bytes ReadFault text asked whole reply = absurd reply
 session_output words unread s s' bytes WriteFault text asked whole reply = absurd reply
 session_output words unread s s' bytes NoMemory text asked whole reply = absurd reply
-
--- a line that refuses the bytes is the output for them
-pub refused_output : {E : Type 0} (options : Options) (bytes text : List ℕ) (r : Result Reply E) → IfOk r (λ reply. (reply.status ≡ BadSession) × (reply.text.items ≡ text)) → IsRefusalOf bytes text
-    → IfOk r (λ reply. IsOutputForSession options bytes reply.status reply.text.items)
-refused_output options bytes text (Ok reply) h is = subst (λ (s : Status). IsOutputForSession options bytes s reply.text.items) (sym h.0) (subst (IsRefusalOf bytes) (sym h.1) is)
-refused_output options bytes text (Err e) h is = tt

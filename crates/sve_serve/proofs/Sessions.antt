@@ -24,7 +24,6 @@ use Rattle.sve_serve.specs.declared.serving.Reply.{Reply}
 use Rattle.sve_serve.specs.declared.status.Status.{Status}
 use Rattle.sve_serve.specs.declared.status.Status.TheVariants.{Done}
 use Rattle.sve_serve.specs.Runs.{IsReportOf, IsOutputForSession}
-use Rattle.sve_serve.specs.Unbuilt.{first_later}
 use Rattle.sve_serve.proofs.InTurn.{are_in_turn}
 
 -- ---- its opening files
@@ -57,21 +56,19 @@ in_turn : (options : Options) (clients : List (List Command)) → AreInTurn opti
 in_turn options clients (inl serial) = inl (ap (λ (b : Bool). if b then InTurn else AtOnce) serial)
 in_turn options clients (inr one) = inr one
 
-pub reported : (options : Options) (bytes text : List ℕ) (script : Script) (entries : List Entry) (records : List (List Record)) → IsSession bytes script → first_later script.clients ≡ None
-    → Honest options script entries records → text ≡ report entries records → IsReportOf options bytes text
-reported options bytes text script entries records session whole honest written = record {
+pub reported : (options : Options) (bytes text : List ℕ) (script : Script) (entries : List Entry) (records : List (List Record)) → IsSession bytes script → Honest options script entries records → text ≡ report entries records → IsReportOf options bytes text
+reported options bytes text script entries records session honest written = record {
   script = script;
   entries = entries;
   records = records;
   session = session;
-  whole = whole;
   honest = honest;
   in_turn = λ turns. let told = are_in_turn (terms_of options) script.files script.clients entries records (in_turn options script.clients turns) honest in (records, told.0, written ∙ ap (λ (es : List Entry). report es records) told.1);
   written = written;
 }
 
-pub reported_output : {E : Type 0} (options : Options) (bytes : List ℕ) (script : Script) (r : Result Reply E) → IsSession bytes script → first_later script.clients ≡ None → IfOk r (λ reply. reply.status ≡ Done)
+pub reported_output : {E : Type 0} (options : Options) (bytes : List ℕ) (script : Script) (r : Result Reply E) → IsSession bytes script → IfOk r (λ reply. reply.status ≡ Done)
     → IfOk r (λ reply. (entries : List Entry) × (records : List (List Record)) × Honest options script entries records × (reply.text.items ≡ report entries records)) → IfOk r (λ reply. IsOutputForSession options bytes reply.status reply.text.items)
-reported_output options bytes script (Ok reply) session whole done (entries, records, honest, written) =
-    subst (λ (s : Status). IsOutputForSession options bytes s reply.text.items) (sym done) (reported options bytes reply.text.items script entries records session whole honest written)
-reported_output options bytes script (Err e) session whole done text = tt
+reported_output options bytes script (Ok reply) session done (entries, records, honest, written) =
+    subst (λ (s : Status). IsOutputForSession options bytes s reply.text.items) (sym done) (reported options bytes reply.text.items script entries records session honest written)
+reported_output options bytes script (Err e) session done text = tt

@@ -4,5 +4,4 @@ pub mod ExitCodes
 pub mod Honest
 pub mod Runs
 pub mod Serial
-pub mod Unbuilt
 pub mod Words

@@ -1,5 +1,5 @@
 -- The output of a run, and the status with which it ends (own).
-use Rattle.std.specs.Prelude.{ℕ, ◌≡◌, ◌<◌, ◌≤◌, ◌⊎◌, ◌++◌, List, Option, Some, None, length, IfSome, codes, decimal}
+use Rattle.std.specs.Prelude.{ℕ, ◌≡◌, ◌<◌, ◌≤◌, ◌⊎◌, ◌++◌, List, Option, Some, length, IfSome, codes, decimal}
 use Rattle.sve_script.specs.declared.sessions.Script.{Script}
 use Rattle.sve_script.specs.declared.sessions.Which.{Which}
 use Rattle.sve_script.specs.declared.sessions.Which.TheVariants.{Files, Bytes, Clients, Commands, Edits, Budget}
@@ -12,7 +12,6 @@ use Rattle.sve_serve.specs.Honest.{Honest, run_budget, AreInTurn}
 use Rattle.sve_serve.specs.Serial.{IsReportInTurn}
 use Rattle.sve_report.specs.Lines.{ended}
 use Rattle.sve_report.specs.Reports.{report}
-use Rattle.sve_serve.specs.Unbuilt.{first_later}
 use Rattle.sve_words.specs.declared.request.Options.{Options}
 use Rattle.sve_words.specs.declared.request.Spoken.TheVariants.{Usage as NoRun}
 use Rattle.sve_words.specs.Words.{spoken}
@@ -42,35 +41,26 @@ word_of Budget = codes "budget"
 abbrev pub limit_line : Which → ℕ → List ℕ
 limit_line which number = ended (codes "bad session: limit " ++ word_of which ++ codes " " ++ decimal number)
 
-abbrev pub later_line : List ℕ → List ℕ
-later_line path = ended (codes "bad session: later at " ++ path)
-
 abbrev pub too_large_line : List ℕ
 too_large_line = ended (codes "bad session: more than 16777216 bytes")
 
--- the bytes are a session that has a part at this path that is not answered yet
-abbrev pub IsLater : List ℕ → List ℕ → Type 0
-IsLater bytes path = (script : Script) × IsSession bytes script × (first_later script.clients ≡ Some path)
-
--- The bytes are a session, all of which is answered, and the text reports a history of it with records that are honest in a run with these options. Where
--- its clients run one after another, it is a report of clients in turn: each command comes at the newest revision, and no ask is cancelled.
+-- The bytes are a session, and the text reports a history of it with records that are honest in a run with these options. Where its clients run one after
+-- another, it is a report of clients in turn: each command comes at the newest revision, and no ask is cancelled.
 pub record IsReportOf (options : Options) (bytes text : List ℕ) : Type 0 where
   pub script : Script
   pub entries : List Entry
   pub records : List (List Record)
   pub session : IsSession bytes script
-  pub whole : first_later script.clients ≡ None
   pub honest : Honest options script entries records
   pub in_turn : AreInTurn options script.clients → IsReportInTurn (run_budget options) script.files script.clients text
   pub written : text ≡ report entries records
 
--- the line for bytes that are no session, or one that is not answered yet
+-- the line for bytes that are no session
 abbrev pub IsRefusalOf : List ℕ → List ℕ → Type 0
 IsRefusalOf bytes text =
     (IsNotJson bytes × (text ≡ not_json_line))
     ⊎ ((path : List ℕ) × IsMisshapen bytes path × (text ≡ shape_line path))
     ⊎ ((which : Which) × (number : ℕ) × IsBeyondLimit bytes which number × (text ≡ limit_line which number))
-    ⊎ ((path : List ℕ) × IsLater bytes path × (text ≡ later_line path))
 
 -- the bytes are refused with such a line
 abbrev pub IsBad : List ℕ → Type 0
@@ -78,7 +68,6 @@ IsBad bytes =
     IsNotJson bytes
     ⊎ ((path : List ℕ) × IsMisshapen bytes path)
     ⊎ ((which : Which) × (number : ℕ) × IsBeyondLimit bytes which number)
-    ⊎ ((path : List ℕ) × IsLater bytes path)
 
 -- The output for the bytes of a session that was read to its end in a run with these options, and the status with which the run then ends.
 abbrev pub IsOutputForSession : Options → List ℕ → Status → List ℕ → Type 0

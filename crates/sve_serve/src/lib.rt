@@ -6,7 +6,6 @@ mod running;
 mod serving;
 mod status;
 mod transfer;
-mod unbuilt;
 
 pub use serving::serve;
 pub use status::{Status, complaint, exit_code};

@@ -1,5 +1,5 @@
 //! The whole program over any source and sink.
-ghost use Rattle.std.specs.Prelude.{◌≡◌, ℕ, ◌+◌, ◌<◌, ◌≤◌, ◌⊎◌, ◌++◌, List, [], Some, None, IfOk, IfSome, length, map, take, string_bytes};
+ghost use Rattle.std.specs.Prelude.{◌≡◌, ℕ, ◌+◌, ◌<◌, ◌≤◌, ◌⊎◌, ◌++◌, List, [], IfOk, IfSome, length, map, take, string_bytes};
 ghost use Rattle.sve_history.specs.Histories.{IsOpening};
 ghost use Rattle.sve_report.specs.declared.entry.Entry.{Entry};
 ghost use Rattle.sve_report.specs.declared.record.Record.{Record};
@@ -12,8 +12,7 @@ ghost use Rattle.sve_script.specs.declared.sessions.Script.{Script};
 ghost use Rattle.sve_script.specs.Limits.{AreInLimits};
 ghost use Rattle.sve_script.specs.Session.{IsSession};
 ghost use Rattle.sve_serve.specs.Endings.{Ends, IsWrittenOrCutShort};
-ghost use Rattle.sve_serve.specs.Runs.{max_session, usage_line, too_large_line, AreLeft, IsReportOf, IsRunOver, WritesItsOutput, IsOutputFor, IsOutputForSession, IsBad, word_of, shape_line, limit_line, later_line};
-ghost use Rattle.sve_serve.specs.Unbuilt.{first_later};
+ghost use Rattle.sve_serve.specs.Runs.{max_session, usage_line, too_large_line, AreLeft, IsReportOf, IsRunOver, WritesItsOutput, IsOutputFor, IsOutputForSession, IsBad, word_of, shape_line, limit_line};
 ghost use Rattle.sve_serve.specs.Words.{IsRun};
 ghost use Rattle.sve_words.specs.declared.request.Options.{Options as OptionsSaid};
 ghost use Rattle.sve_words.specs.Words.{spoken};
@@ -21,7 +20,6 @@ ghost use Rattle.sve_words.specs.Words.{spoken};
 use crate::running::run;
 use crate::status::Status;
 use crate::transfer::{ReadError, read_session, write_text};
-use crate::unbuilt::first_later;
 use itoa::Buffer;
 use std::alloc::{AllocError, Global};
 use std::sync::Wait;
@@ -105,10 +103,9 @@ where
         × Gains (K.held sink.old) (K.held sink.new) too_large_line }
     ensures no_memory { result ≡ Status.NoMemory → (sink.new ≡ sink.old) × ((source.new ≡ source.old) ⊎ IsRun (map string_bytes words.now)) }
 
-    // Where neither end fails, a session is answered, one that has a part which is not answered yet and other bytes are
-    // refused, or memory is wanting.
+    // Where neither end fails, a session is answered and other bytes are refused, or memory is wanting.
     ensures answered { (bytes : List ℕ) (script : Script) → IsRunOver (map string_bytes words.now) (S.left source.old) bytes
-        → length bytes ≤ max_session → IsSession bytes script → first_later script.clients ≡ None
+        → length bytes ≤ max_session → IsSession bytes script
         → ¬ HasRisen (S.faults source.old) (S.faults source.new) → ¬ HasRisen (K.faults sink.old) (K.faults sink.new)
         → (result ≡ Status.Done) ⊎ (result ≡ Status.NoMemory) }
     ensures refused { (bytes : List ℕ) → IsRunOver (map string_bytes words.now) (S.left source.old) bytes
@@ -188,10 +185,7 @@ where
     // The session has its own texts, so its bytes need not stay.
     drop(bytes);
     match read {
-        Ok(script) => match first_later(alloc, &script)? {
-            Some(path) => refusal_at(alloc, b"bad session: later at ", path.items()),
-            None => report_of(rt, alloc, options, script, gate),
-        },
+        Ok(script) => report_of(rt, alloc, options, script, gate),
         Err(BadSession::NotJson) => refusal(Vec::from_slice(alloc, NOT_JSON_LINE)?),
         Err(BadSession::Shape { path }) => {
             refusal_at(alloc, b"bad session: shape at ", path.items())
@@ -201,7 +195,7 @@ where
     }
 }
 
-/// The report of a session that is answered whole.
+/// The report of a session.
 fn report_of<R, G>(
     rt: &R,
     alloc: Global,

@@ -1,5 +1,5 @@
 -- All that the bodies of a project tell is so of its design.
-use Rattle.sve_project.specs.Replies.{design_of}
+use Rattle.sve_named.specs.Replies.{design_of}
 use Rattle.sve_design_answers.proofs.tree.walked.Goals as goal
 
 pub returns-in-Ok : goal.returns-in-Ok

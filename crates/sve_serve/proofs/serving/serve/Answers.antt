@@ -26,7 +26,7 @@ returns g c =
       read = cause.read words unread unwritten s s' k k' (λ same. ap g.S.Source.left same) r e;
       too_large = cause.too_large words unread unwritten s s' k k' r e;
       no_memory = cause.no_memory words unread unwritten s s' k k' r e;
-      answered = λ bytes script over small session whole reads writes. cause.answered words unread unwritten s s' k k' bytes script (over, reads, writes) small session whole r e;
+      answered = λ bytes script over small session reads writes. cause.answered words unread unwritten s s' k k' bytes script (over, reads, writes) small session r e;
       refused = λ bytes over small bad reads writes. cause.refused words unread unwritten s s' k k' bytes (over, reads, writes) small bad r e;
       too_many = λ bytes over many reads writes. cause.too_many words unread unwritten s s' k k' bytes (over, reads, writes) many r e;
     }
