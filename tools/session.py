@@ -314,13 +314,7 @@ def answers_of(lines: Sequence[str]) -> List[List[str]]:
 
 def answered(program: str, files: Project, commits: Sequence[Command], asks: Sequence[Ask]) -> List[List[str]]:
     """What the program answers to the asks behind the commits."""
-    try:
-        return answers_of(ran(program, session_of(files, [*commits, *asks])))
-    except Failure as failure:
-        later = re.search(r"bad session: later at /clients/0/(\d+)/ask$", str(failure))
-        if later is None:
-            raise
-        raise Failure(f"the program does not answer {asks[int(later.group(1)) - len(commits)]['ask']!r} yet") from None
+    return answers_of(ran(program, session_of(files, [*commits, *asks])))
 
 
 def shown(text: str) -> str:
