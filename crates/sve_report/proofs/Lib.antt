@@ -1,4 +1,5 @@
 pub mod Cuts
 pub mod LineParts
 pub mod LineTexts
+pub mod Linted
 pub mod ReadBack

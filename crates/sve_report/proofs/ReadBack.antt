@@ -2,6 +2,7 @@
 use Rattle.std.proofs.Common.{◌≡◌, ℕ, ◌+◌, ◌^◌, ◌<◌, ◌≤◌, List, [], ◌∷◌, ◌++◌, length, get_or, codes, decimal, refl, sym, ◌∙◌, ap, subst, arith, append_assoc, length-append}
 use Rattle.std.specs.Str.Parse.{digits_value}
 use Rattle.std.proofs.lemmas.Fmt.{decimal_is_IsNumeral, decimal_nonempty}
+use Rattle.std.proofs.lemmas.List.{append-nil}
 use Rattle.sve_report.specs.declared.entry.Entry.{Entry}
 use Rattle.sve_report.specs.declared.record.Record.{Record}
 use Rattle.sve_report.specs.declared.record.Record.TheVariants.{Accepted, Refused, Answered, Cancelled, Spent}
@@ -13,7 +14,7 @@ use Rattle.sve_report.specs.ReadBack.{Fits64, EntriesFit, WhyFits, RecordFits, R
 use Rattle.sve_report.proofs.LineTexts.{AreDigits, digits-decimal, decimal-lacks, lacks-append, lacks_by, text-append, are_lines-append}
 
 -- the two parts of a text round the first byte that the first part lacks
-parted : (b : ℕ) (xs ys ts us : List ℕ) → Lacks b xs → Lacks b ys → xs ++ b ∷ ts ≡ ys ++ b ∷ us → (xs ≡ ys) × (ts ≡ us)
+pub parted : (b : ℕ) (xs ys ts us : List ℕ) → Lacks b xs → Lacks b ys → xs ++ b ∷ ts ≡ ys ++ b ∷ us → (xs ≡ ys) × (ts ≡ us)
 parted b [] [] ts us lx ly e = (refl, cc)
 parted b [] (y ∷ ys) ts us lx ly e = let same : y ≡ b = cc in absurd (ly.0 same)
 parted b (x ∷ xs) [] ts us lx ly e = let same : x ≡ b = cc in absurd (lx.0 same)
@@ -23,7 +24,7 @@ parted b (x ∷ xs) (y ∷ ys) ts us lx ly e =
     let p = parted b xs ys ts us lx.1 ly.1 rest in
     ((λ k. first k ∷ p.0 k), p.1)
 
-same_number : (m n : ℕ) → Fits64 m → Fits64 n → decimal m ≡ decimal n → m ≡ n
+pub same_number : (m n : ℕ) → Fits64 m → Fits64 n → decimal m ≡ decimal n → m ≡ n
 same_number m n fm fn e = sym (decimal_is_IsNumeral m fm).1 ∙ ap (digits_value 10) e ∙ (decimal_is_IsNumeral n fn).1
 
 pub front_gone : {A : Type 0} (xs ts us : List A) → xs ++ ts ≡ xs ++ us → ts ≡ us
@@ -41,10 +42,10 @@ fronts_same (x ∷ xs) (y ∷ ys) ts us size e =
     ((λ k. first k ∷ p.0 k), p.1)
 
 -- one line, and the text after it
-line_parted : (l m ts us : List ℕ) → Lacks 10 l → Lacks 10 m → ended l ++ ts ≡ ended m ++ us → (l ≡ m) × (ts ≡ us)
+pub line_parted : (l m ts us : List ℕ) → Lacks 10 l → Lacks 10 m → ended l ++ ts ≡ ended m ++ us → (l ≡ m) × (ts ≡ us)
 line_parted l m ts us ll lm e = parted 10 l m ts us ll lm (sym (append_assoc l (10 ∷ []) ts) ∙ e ∙ append_assoc m (10 ∷ []) us)
 
-lines_read : (ls ms : List (List ℕ)) → AreLines ls → AreLines ms → text_of_lines ls ≡ text_of_lines ms → ls ≡ ms
+pub lines_read : (ls ms : List (List ℕ)) → AreLines ls → AreLines ms → text_of_lines ls ≡ text_of_lines ms → ls ≡ ms
 lines_read [] [] hl hm e = refl
 lines_read [] (m ∷ ms) hl hm e = absurd (omega (arith, ap length e, length-append (ended m) (text_of_lines ms), length-append m (10 ∷ [])))
 lines_read (l ∷ ls) [] hl hm e = absurd (omega (arith, ap length e, length-append (ended l) (text_of_lines ls), length-append l (10 ∷ [])))
@@ -72,7 +73,7 @@ entry_read r e f ec ek fc fk same =
     let command = same_number e.command f.command ek fk p.1 in
     (λ k. record { client = client k; command = command k })
 
-entries_read : (r : ℕ) (es fs : List Entry) (ts us : List ℕ) → EntriesFit es → EntriesFit fs → length es ≡ length fs → r + length es ≤ 2 ^ 64
+pub entries_read : (r : ℕ) (es fs : List Entry) (ts us : List ℕ) → EntriesFit es → EntriesFit fs → length es ≡ length fs → r + length es ≤ 2 ^ 64
     → text_of_lines (entry_lines r es) ++ ts ≡ text_of_lines (entry_lines r fs) ++ us → es ≡ fs
 entries_read r [] [] ts us he hf size fits e = refl
 entries_read r [] (f ∷ fs) ts us he hf size fits e = absurd (omega (arith, size))
@@ -85,10 +86,10 @@ entries_read r (x ∷ es) (f ∷ fs) ts us he hf size fits e =
     let rest = entries_read (r + 1) es fs ts us he.2 hf.2 (omega (arith, size)) (omega (arith, fits)) p.1 in
     (λ k. first k ∷ rest k)
 
-head_lacks : (n : ℕ) → Fits64 n → Lacks 10 (codes "history " ++ decimal n)
+pub head_lacks : (n : ℕ) → Fits64 n → Lacks 10 (codes "history " ++ decimal n)
 head_lacks n fits = lacks-append 10 (codes "history ") (decimal n) (lacks_by 10 (codes "history ") refl) (decimal-lacks 10 n (omega arith) fits)
 
-report-parts : (es : List Entry) (rs : List (List Record)) → report es rs ≡ ended (codes "history " ++ decimal (length es)) ++ (text_of_lines (entry_lines 1 es) ++ text_of_lines (clients_lines 1 rs))
+pub report-parts : (es : List Entry) (rs : List (List Record)) → report es rs ≡ ended (codes "history " ++ decimal (length es)) ++ (text_of_lines (entry_lines 1 es) ++ text_of_lines (clients_lines 1 rs))
 report-parts es rs = ap (λ (t : List ℕ). ended (codes "history " ++ decimal (length es)) ++ t) (text-append (entry_lines 1 es) (clients_lines 1 rs))
 
 history_read : (es fs : List Entry) (rs ss : List (List Record)) → Fits64 (length es) → Fits64 (length fs) → EntriesFit es → EntriesFit fs → report es rs ≡ report fs ss → es ≡ fs
@@ -188,7 +189,7 @@ client_are_lines : (j : ℕ) (recs : List Record) → RecordsFit recs → j + le
 client_are_lines j [] fits small = tt
 client_are_lines j (rec ∷ recs) fits small = are_lines-append (record_lines j rec) (client_lines (j + 1) recs) (record_are_lines j rec (omega (arith, small)) fits.0) (client_are_lines (j + 1) recs fits.1 (omega (arith, small)))
 
-clients_are_lines : (i : ℕ) (rs : List (List Record)) → AllRecordsFit rs → i + length rs ≤ 2 ^ 64 → AreLines (clients_lines i rs)
+pub clients_are_lines : (i : ℕ) (rs : List (List Record)) → AllRecordsFit rs → i + length rs ≤ 2 ^ 64 → AreLines (clients_lines i rs)
 clients_are_lines i [] fits small = tt
 clients_are_lines i (recs ∷ rs) fits small =
     are_lines-append ((codes "client " ++ decimal i) ∷ client_lines 1 recs) (clients_lines (i + 1) rs)
@@ -279,47 +280,77 @@ record_read j (Spent r budget) (Refused q g w) ls ms fx fy e = absurd (omega (ar
 record_read j (Spent r budget) (Answered q others) ls ms fx fy e = absurd (omega (arith, kind_read j (Spent r budget) (Answered q others) ls ms e))
 record_read j (Spent r budget) (Cancelled base' newer') ls ms fx fy e = absurd (omega (arith, kind_read j (Spent r budget) (Cancelled base' newer') ls ms e))
 
--- a record's line begins with a digit, and that of a client does not
-digit_first : (ds xs ys : List ℕ) → AreDigits ds → 0 < length ds → codes "client " ++ xs ≡ ds ++ ys → ⊥
-digit_first [] xs ys h some e = absurd (omega (arith, some))
-digit_first (d ∷ ds) xs ys h some e = let first : 99 ≡ d = cc (e) in absurd (omega (arith, first, h.1))
+-- the first of these lines, where there is one, begins with a byte behind the digits
+abbrev pub BeginsApart : List (List ℕ) → Type 0
+BeginsApart [] = Unit {0}
+BeginsApart (line ∷ lines) = 57 < get_or line 0 0
 
-no_client : (i j : ℕ) (more : List (List Record)) (rec : Record) (ls : List (List ℕ)) → Fits64 j → clients_lines i more ≡ record_lines j rec ++ ls → ⊥
-no_client i j [] rec ls fj e =
+-- a line that begins with a digit, and one that does not
+pub digit_first : (ds xs line : List ℕ) → AreDigits ds → 0 < length ds → 57 < get_or line 0 0 → line ≡ ds ++ xs → ⊥
+digit_first [] xs line h some apart e = absurd (omega (arith, some))
+digit_first (d ∷ ds) xs line h some apart e = let first : get_or line 0 0 ≡ d = ap (λ (l : List ℕ). get_or l 0 0) e in absurd (omega (arith, apart, first, h.1))
+
+-- a record's line begins with a digit
+no_record : (j : ℕ) (ts : List (List ℕ)) (rec : Record) (ls : List (List ℕ)) → Fits64 j → BeginsApart ts → ts ≡ record_lines j rec ++ ls → ⊥
+no_record j [] rec ls fj apart e =
     let h = head_of j rec in
     let same : ◌≡◌ {A = List (List ℕ)} [] ((decimal j ++ h.rest) ∷ (h.below ++ ls)) = e ∙ ap (λ (l : List (List ℕ)). l ++ ls) h.are in
     absurd (omega (arith, ap length same))
-no_client i j (recs ∷ more) rec ls fj e =
+no_record j (line ∷ ts) rec ls fj apart e =
     let h = head_of j rec in
     let same = e ∙ ap (λ (l : List (List ℕ)). l ++ ls) h.are in
-    let first : codes "client " ++ decimal i ≡ decimal j ++ h.rest = cc (same) in
-    digit_first (decimal j) (decimal i) h.rest (digits-decimal j fj) (decimal_nonempty j fj) first
+    let first : line ≡ decimal j ++ h.rest = cc (same) in
+    digit_first (decimal j) h.rest line (digits-decimal j fj) (decimal_nonempty j fj) apart first
 
-records_read : (j i : ℕ) (xs ys : List Record) (more others : List (List Record)) → RecordsFit xs → RecordsFit ys → j + length xs ≤ 2 ^ 64 → j + length ys ≤ 2 ^ 64
-    → client_lines j xs ++ clients_lines i more ≡ client_lines j ys ++ clients_lines i others → (xs ≡ ys) × (clients_lines i more ≡ clients_lines i others)
-records_read j i [] [] more others hx hy sx sy e = (refl, e)
-records_read j i [] (y ∷ ys) more others hx hy sx sy e = absurd (no_client i j more y _ (omega (arith, sy)) (e ∙ append_assoc (record_lines j y) (client_lines (j + 1) ys) (clients_lines i others)))
-records_read j i (x ∷ xs) [] more others hx hy sx sy e = absurd (no_client i j others x _ (omega (arith, sx)) (sym e ∙ append_assoc (record_lines j x) (client_lines (j + 1) xs) (clients_lines i more)))
-records_read j i (x ∷ xs) (y ∷ ys) more others hx hy sx sy e =
-    let whole = sym (append_assoc (record_lines j x) (client_lines (j + 1) xs) (clients_lines i more)) ∙ e ∙ append_assoc (record_lines j y) (client_lines (j + 1) ys) (clients_lines i others) in
+records_read : (j : ℕ) (xs ys : List Record) (ts us : List (List ℕ)) → BeginsApart ts → BeginsApart us → RecordsFit xs → RecordsFit ys → j + length xs ≤ 2 ^ 64 → j + length ys ≤ 2 ^ 64
+    → client_lines j xs ++ ts ≡ client_lines j ys ++ us → (xs ≡ ys) × (ts ≡ us)
+records_read j [] [] ts us at au hx hy sx sy e = (refl, e)
+records_read j [] (y ∷ ys) ts us at au hx hy sx sy e = absurd (no_record j ts y _ (omega (arith, sy)) at (e ∙ append_assoc (record_lines j y) (client_lines (j + 1) ys) us))
+records_read j (x ∷ xs) [] ts us at au hx hy sx sy e = absurd (no_record j us x _ (omega (arith, sx)) au (sym e ∙ append_assoc (record_lines j x) (client_lines (j + 1) xs) ts))
+records_read j (x ∷ xs) (y ∷ ys) ts us at au hx hy sx sy e =
+    let whole = sym (append_assoc (record_lines j x) (client_lines (j + 1) xs) ts) ∙ e ∙ append_assoc (record_lines j y) (client_lines (j + 1) ys) us in
     let p = record_read j x y _ _ hx.0 hy.0 whole in
-    let q = records_read (j + 1) i xs ys more others hx.1 hy.1 (omega (arith, sx)) (omega (arith, sy)) p.1 in
+    let q = records_read (j + 1) xs ys ts us at au hx.1 hy.1 (omega (arith, sx)) (omega (arith, sy)) p.1 in
     ((λ k. p.0 k ∷ q.0 k), q.1)
 
-clients_read : (i : ℕ) (rs ss : List (List Record)) → AllRecordsFit rs → AllRecordsFit ss → clients_lines i rs ≡ clients_lines i ss → rs ≡ ss
-clients_read i [] [] hr hs e = refl
-clients_read i [] (s ∷ ss) hr hs e = absurd (omega (arith, ap length e))
-clients_read i (r ∷ rs) [] hr hs e = absurd (omega (arith, ap length e))
-clients_read i (r ∷ rs) (s ∷ ss) hr hs e =
-    let rest : client_lines 1 r ++ clients_lines (i + 1) rs ≡ client_lines 1 s ++ clients_lines (i + 1) ss = cc (e) in
-    let p = records_read 1 (i + 1) r s rs ss hr.0 hs.0 (omega (arith, hr.1)) (omega (arith, hs.1)) rest in
-    let q = clients_read (i + 1) rs ss hr.2 hs.2 p.1 in
-    (λ k. p.0 k ∷ q k)
+-- what stands behind the clients: nothing, or lines of which the first begins with `l`
+abbrev pub IsBehind : List (List ℕ) → Type 0
+IsBehind [] = Unit {0}
+IsBehind (line ∷ lines) = get_or line 0 0 ≡ 108
+
+behind_apart : (ts : List (List ℕ)) → IsBehind ts → BeginsApart ts
+behind_apart [] h = tt
+behind_apart (line ∷ ts) h = omega (arith, h)
+
+clients_apart : (i : ℕ) (rs : List (List Record)) (ts : List (List ℕ)) → IsBehind ts → BeginsApart (clients_lines i rs ++ ts)
+clients_apart i [] ts h = behind_apart ts h
+clients_apart i (r ∷ rs) ts h = let first : 57 < 99 = omega arith in first
+
+-- a client's line begins with `c`
+no_client : (i : ℕ) (s : List Record) (ss : List (List Record)) (ts us : List (List ℕ)) → IsBehind ts → ts ≡ clients_lines i (s ∷ ss) ++ us → ⊥
+no_client i s ss [] us behind e = absurd (omega (arith, ap length e))
+no_client i s ss (line ∷ ts) us behind e =
+    let first : line ≡ codes "client " ++ decimal i = cc (e) in
+    let letter : get_or line 0 0 ≡ 99 = ap (λ (l : List ℕ). get_or l 0 0) first in
+    absurd (omega (arith, behind, letter))
+
+pub clients_read : (i : ℕ) (rs ss : List (List Record)) (ts us : List (List ℕ)) → IsBehind ts → IsBehind us → AllRecordsFit rs → AllRecordsFit ss
+    → clients_lines i rs ++ ts ≡ clients_lines i ss ++ us → (rs ≡ ss) × (ts ≡ us)
+clients_read i [] [] ts us bt bu hr hs e = (refl, e)
+clients_read i [] (s ∷ ss) ts us bt bu hr hs e = absurd (no_client i s ss ts us bt e)
+clients_read i (r ∷ rs) [] ts us bt bu hr hs e = absurd (no_client i r rs us ts bu (sym e))
+clients_read i (r ∷ rs) (s ∷ ss) ts us bt bu hr hs e =
+    let rest : (client_lines 1 r ++ clients_lines (i + 1) rs) ++ ts ≡ (client_lines 1 s ++ clients_lines (i + 1) ss) ++ us = cc (e) in
+    let parts = sym (append_assoc (client_lines 1 r) (clients_lines (i + 1) rs) ts) ∙ rest ∙ append_assoc (client_lines 1 s) (clients_lines (i + 1) ss) us in
+    let p = records_read 1 r s _ _ (clients_apart (i + 1) rs ts bt) (clients_apart (i + 1) ss us bu) hr.0 hs.0 (omega (arith, hr.1)) (omega (arith, hs.1)) parts in
+    let q = clients_read (i + 1) rs ss ts us bt bu hr.2 hs.2 p.1 in
+    ((λ k. p.0 k ∷ q.0 k), q.1)
 
 told_read : (es : List Entry) (rs ss : List (List Record)) → AllRecordsFit rs → AllRecordsFit ss → Fits64 (length rs) → Fits64 (length ss) → report es rs ≡ report es ss → rs ≡ ss
 told_read es rs ss hr hs fr fs e =
     let texts = front_gone (text_of_lines (entry_lines 1 es)) _ _ (front_gone (ended (codes "history " ++ decimal (length es))) _ _ (sym (report-parts es rs) ∙ e ∙ report-parts es ss)) in
-    clients_read 1 rs ss hr hs (lines_read (clients_lines 1 rs) (clients_lines 1 ss) (clients_are_lines 1 rs hr (omega (arith, fr))) (clients_are_lines 1 ss hs (omega (arith, fs))) texts)
+    let lines = lines_read (clients_lines 1 rs) (clients_lines 1 ss) (clients_are_lines 1 rs hr (omega (arith, fr))) (clients_are_lines 1 ss hs (omega (arith, fs))) texts in
+    (clients_read 1 rs ss [] [] tt tt hr hs (append-nil (clients_lines 1 rs) ∙ lines ∙ sym (append-nil (clients_lines 1 ss)))).0
 
 pub reports_read_back : IsReadBack
 reports_read_back = record { history = λ es fs rs ss. history_read es fs rs ss; told = told_read }

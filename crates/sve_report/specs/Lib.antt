@@ -1,4 +1,5 @@
 pub mod Cutting
 pub mod Lines
+pub mod Linted
 pub mod ReadBack
 pub mod Reports

@@ -6,9 +6,13 @@ mod cutting;
 mod entry;
 mod record;
 mod reporting;
+mod section;
 
 pub use answer_lines::Lines;
 pub use cutting::pieces_make_the_text;
 pub use entry::Entry;
 pub use record::Record;
-pub use reporting::{report_text, reports_are_read_back};
+pub use reporting::{
+    linted_reports_are_read_back, report_text, report_text_with_lint, reports_are_read_back,
+};
+pub use section::LintSection;

@@ -1,11 +1,13 @@
 //! The report of a run.
 ghost use Rattle.std.specs.Prelude.{◌≡◌, ◌++◌, ◌∷◌, [], IfOk, OnOk, codes, decimal};
 ghost use Rattle.sve_report.specs.Lines.{ended, text_of_lines};
+ghost use Rattle.sve_report.specs.Linted.{IsLintedReadBack, found_text, report_with_lint, section_lines, spent_text};
 ghost use Rattle.sve_report.specs.ReadBack.{IsReadBack};
 ghost use Rattle.sve_report.specs.Reports.{report, entry_line, entry_lines, why_text, refusal_text, pair_text, record_lines, client_lines, clients_lines};
 
 use crate::entry::Entry;
 use crate::record::Record;
+use crate::section::LintSection;
 use itoa::Buffer;
 use std::alloc::Global;
 use sve_bytes::{List, NoMemory};
@@ -25,6 +27,23 @@ pub fn report_text(
     add_words(&mut text, b"\n")?;
     add_entries(&mut text, entries)?;
     add_clients(&mut text, records)?;
+    Ok(text)
+}
+
+/// The report of a history, of the records of each client, client 1 first, and behind these of what lint rules found.
+///
+/// # Errors
+/// For want of memory alone.
+pub fn report_text_with_lint(
+    alloc: Global,
+    entries: &[Entry],
+    records: &[List<Record>],
+    section: &LintSection,
+) -> Result<Vec<u8>, NoMemory>
+    ensures { IfOk result (λ text. text.items ≡ report_with_lint entries.now records.now section.now) }
+{
+    let mut text = report_text(alloc, entries, records)?;
+    add_section(&mut text, section)?;
     Ok(text)
 }
 
@@ -109,6 +128,41 @@ fn add_lines(text: &mut Vec<u8>, lines: &[List<u8>]) -> Result<(), NoMemory>
     Ok(())
 }
 
+/// `lint <r> <k>` and the k lines of what was found, or `lint <r> spent <budget>`.
+fn add_section(text: &mut Vec<u8>, section: &LintSection) -> Result<(), NoMemory>
+    ensures { OnOk result (text.new.items ≡ text.old.items ++ text_of_lines (section_lines section.now)) }
+{
+    match section {
+        LintSection::Found { r, lines: found } => {
+            add_found(text, *r, found.items().len() as u64)?;
+            add_lines(text, found.items())
+        }
+        LintSection::Spent { r, budget } => add_spent(text, *r, u64::from(*budget)),
+    }
+}
+
+/// `lint <r> <k>`
+fn add_found(text: &mut Vec<u8>, r: u64, k: u64) -> Result<(), NoMemory>
+    ensures { OnOk result (text.new.items ≡ text.old.items ++ ended (found_text r k)) }
+{
+    add_words(text, b"lint ")?;
+    add_number(text, r)?;
+    add_words(text, b" ")?;
+    add_number(text, k)?;
+    add_words(text, b"\n")
+}
+
+/// `lint <r> spent <budget>`
+fn add_spent(text: &mut Vec<u8>, r: u64, budget: u64) -> Result<(), NoMemory>
+    ensures { OnOk result (text.new.items ≡ text.old.items ++ ended (spent_text r budget)) }
+{
+    add_words(text, b"lint ")?;
+    add_number(text, r)?;
+    add_words(text, b" spent ")?;
+    add_number(text, budget)?;
+    add_words(text, b"\n")
+}
+
 /// `<j> accepted <r>`
 fn add_accepted(text: &mut Vec<u8>, j: u64, r: u64) -> Result<(), NoMemory>
     ensures { OnOk result (text.new.items ≡ text.old.items ++ ended (decimal j ++ codes " accepted " ++ decimal r)) }
@@ -185,4 +239,10 @@ fn add_measure(text: &mut Vec<u8>, words: &[u8], n: u64) -> Result<(), NoMemory>
 /// holds a line feed.
 pub fn reports_are_read_back()
     ensures { IsReadBack }
+{}
+
+/// The law of reports with what lint rules found: the history is read off the bytes, and so are the records and what was found
+/// where none of their lines holds a line feed.
+pub fn linted_reports_are_read_back()
+    ensures { IsLintedReadBack }
 {}
