@@ -1,3 +1,4 @@
 pub mod Limits
 pub mod Session
 pub mod OneReading
+pub mod Made

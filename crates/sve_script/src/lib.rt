@@ -3,6 +3,7 @@
 
 mod clients;
 mod limits;
+mod made;
 mod one_reading;
 mod opening;
 mod parts;
@@ -10,6 +11,7 @@ mod reading;
 mod sessions;
 mod threads;
 
+pub use made::{MAX_MADE, made_session};
 pub use one_reading::bytes_have_one_reading;
 pub use reading::script;
 pub use sessions::{BadSession, MAX_CLIENTS, MAX_COMMANDS, MAX_EDITS, Script, Which};
