@@ -2,9 +2,9 @@
 use Rattle.std.proofs.Common.{ℕ, inl, inr, List, sym, subst}
 use Rattle.sve_serve.specs.declared.status.Status.{Status}
 use Rattle.sve_serve.specs.declared.status.Status.TheVariants.{Done, Usage, BadSession, ReadFault, WriteFault, TooLarge, NoMemory}
-use Rattle.sve_serve.specs.Endings.{Seen, IsReadWhole, IsOutputForRead, IsWrittenOrCutShort, HasWrittenOutput, Ends}
+use Rattle.sve_serve.specs.Endings.{Seen, IsReadWhole, IsOutputForRead, IsMadeOrCutShort, IsWrittenOrCutShort, HasWrittenOutput, Ends}
 use Rattle.sve_serve.specs.Runs.{IsOutputForSession}
-use Rattle.sve_serve.specs.Words.{IsRun}
+use Rattle.sve_serve.specs.Words.{IsRun, IsMade}
 
 written_ends : (words : List (List ℕ)) (unread unwritten : Type 0) (s s' k k' : Seen) (status : Status) (text : List ℕ) → IsOutputForRead words unread s s' status text → HasWrittenOutput words unread s s' k k' status → Ends words unread unwritten s s' k k' status
 written_ends words unread unwritten s s' k k' Done text output written = written
@@ -21,10 +21,15 @@ output_ends words unread unwritten s s' k k' status result text output (inr (is,
 
 -- the output for a session that was read whole
 pub session_output : (words : List (List ℕ)) (unread : Type 0) (s s' : Seen) (bytes : List ℕ) (status : Status) (text : List ℕ) (asked : IsRun words) → IsReadWhole s s' bytes → IsOutputForSession asked.0 bytes status text → IsOutputForRead words unread s s' status text
-session_output words unread s s' bytes Done text asked whole reply = (asked, (bytes, whole, reply))
+session_output words unread s s' bytes Done text asked whole reply = inl (asked, (bytes, whole, reply))
 session_output words unread s s' bytes BadSession text asked whole reply = (asked, (bytes, whole, reply))
 session_output words unread s s' bytes Usage text asked whole reply = absurd reply
 session_output words unread s s' bytes TooLarge text asked whole reply = absurd reply
 session_output words unread s s' bytes ReadFault text asked whole reply = absurd reply
 session_output words unread s s' bytes WriteFault text asked whole reply = absurd reply
 session_output words unread s s' bytes NoMemory text asked whole reply = absurd reply
+
+-- a generated session, for which the source is left alone
+pub made_ends : (words : List (List ℕ)) (unread unwritten : Type 0) (s s' k k' : Seen) (result : Status) (asked : IsMade words) → unread → IsMadeOrCutShort asked.0 unwritten k k' result → Ends words unread unwritten s s' k k' result
+made_ends words unread unwritten s s' k k' result asked alone (inl (text, summary, written)) = output_ends words unread unwritten s s' k k' Done result text (inr (asked, alone, summary)) written
+made_ends words unread unwritten s s' k k' result asked alone (inr (is, still)) = subst (Ends words unread unwritten s s' k k') (sym is) (still, inl alone)

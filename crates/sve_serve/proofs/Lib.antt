@@ -2,6 +2,8 @@ pub mod Answered
 pub mod Causes
 pub mod Endings
 pub mod InTurn
+pub mod LeftOut
 pub mod OneReport
 pub mod Sessions
 pub mod SmallestRun
+pub mod SmallestSummary

@@ -1,5 +1,5 @@
 -- What is known of a session that was read, and of the report of its run.
-use Rattle.std.proofs.Common.{◌≡◌, ℕ, ◌<◌, ◌≤◌, ◌^◌, ◌⊎◌, inl, inr, List, Option, Some, None, if◌then◌else◌, sym, ap, ◌∙◌, subst, arith}
+use Rattle.std.proofs.Common.{◌≡◌, ℕ, ◌<◌, ◌≤◌, ◌^◌, ◌⊎◌, inl, inr, List, Option, Some, None, true, refl, if◌then◌else◌, sym, ap, ◌∙◌, subst, arith}
 use Rattle.std.specs.Prelude.{All, Bool, IfOk, Result, Ok, Err, length}
 use Rattle.std.proofs.lemmas.List.Elements.{All-weaker}
 use Rattle.sve_text.specs.Files.{opening_files}
@@ -13,17 +13,20 @@ use Rattle.sve_script.specs.declared.sessions.TheConstants.{MAX_EDITS}
 use Rattle.sve_script.specs.declared.limits.Beyond.{Beyond}
 use Rattle.sve_script.specs.declared.parts.Parts.{Parts}
 use Rattle.sve_script.specs.Limits.{limit_of, AreInLimits}
+use Rattle.sve_script.specs.Made.{made_files, made_session}
 use Rattle.sve_script.specs.Session.{within as in_limits, session_from, parts_of, IsSession}
 use Rattle.sve_report.specs.declared.entry.Entry.{Entry}
 use Rattle.sve_report.specs.declared.record.Record.{Record}
 use Rattle.sve_report.specs.Reports.{report}
 use Rattle.sve_runner.specs.Told.{AreFew}
 use Rattle.sve_words.specs.declared.request.Options.{Options}
-use Rattle.sve_serve.specs.Honest.{run_order, terms_of, Honest, AreInTurn}
+use Rattle.sve_serve.specs.Honest.{default_budget, run_order, terms_of, Honest, AreInTurn}
 use Rattle.sve_serve.specs.declared.serving.Reply.{Reply}
 use Rattle.sve_serve.specs.declared.status.Status.{Status}
 use Rattle.sve_serve.specs.declared.status.Status.TheVariants.{Done}
-use Rattle.sve_serve.specs.Runs.{IsReportOf, IsOutputForSession}
+use Rattle.sve_serve.specs.Runs.{IsReportOf, IsOutputForSession, IsSummaryOf}
+use Rattle.sve_serve.specs.Serial.{AreRecordsInTurn, opened}
+use Rattle.sve_serve.specs.Summary.{summary}
 use Rattle.sve_serve.proofs.InTurn.{are_in_turn}
 
 -- ---- its opening files
@@ -72,3 +75,17 @@ pub reported_output : {E : Type 0} (options : Options) (bytes : List ℕ) (scrip
 reported_output options bytes script (Ok reply) session done (entries, records, honest, written) =
     subst (λ (s : Status). IsOutputForSession options bytes s reply.text.items) (sym done) (reported options bytes reply.text.items script entries records session honest written)
 reported_output options bytes script (Err e) session done text = tt
+
+-- ---- the generated session
+
+-- no commit has touched its files
+pub made_opening : (n : ℕ) (script : Script) → script ≡ made_session n → IsOpening script.files
+made_opening n script is = subst (λ (s : Script). IsOpening s.files) (sym is) (opening_files_are_untouched (made_files n))
+
+abbrev made_options : Options
+made_options = record { budget = None; serial = true }
+
+pub summed_up : (n : ℕ) (script : Script) (entries : List Entry) (records : List (List Record)) (text : List ℕ) → script ≡ made_session n → Honest made_options script entries records → text ≡ summary n records → IsSummaryOf n text
+summed_up n script entries records text is honest written =
+    let told = are_in_turn (terms_of made_options) script.files script.clients entries records (inl refl) honest in
+    (records, subst (λ (s : Script). AreRecordsInTurn default_budget (opened s.files) 1 s.clients records) is told.0, written)

@@ -4,11 +4,11 @@ use Rattle.sve_io.specs.Faults.{HasRisen}
 use Rattle.sve_io.specs.Moves.{Loses, Gains}
 use Rattle.sve_serve.specs.declared.status.Status.{Status}
 use Rattle.sve_serve.specs.declared.status.Status.TheVariants.{Done, Usage, BadSession, ReadFault, WriteFault, TooLarge, NoMemory}
-use Rattle.sve_serve.specs.Runs.{max_session, usage_line, too_large_line, AreLeft, IsOutputForSession}
+use Rattle.sve_serve.specs.Runs.{max_session, usage_line, too_large_line, AreLeft, IsOutputForSession, IsSummaryOf}
 use Rattle.sve_words.specs.declared.request.Options.{Options}
 use Rattle.sve_words.specs.declared.request.Spoken.TheVariants.{Usage as NoRun}
 use Rattle.sve_words.specs.Words.{spoken}
-use Rattle.sve_serve.specs.Words.{IsRun}
+use Rattle.sve_serve.specs.Words.{IsRun, IsMade}
 
 -- A source or a sink at one moment: the bytes that it tells, and its count of faults.
 pub record Seen : Type 0 where
@@ -37,7 +37,7 @@ HasReadSession options before after status text = (bytes : List ℕ) × IsReadWh
 abbrev pub IsOutputForRead : List (List ℕ) → Type 0 → Seen → Seen → Status → List ℕ → Type 0
 IsOutputForRead words unread before after Usage text = (spoken words ≡ NoRun) × unread × (text ≡ usage_line)
 IsOutputForRead words unread before after TooLarge text = IsRun words × IsReadPast before after × (text ≡ too_large_line)
-IsOutputForRead words unread before after Done text = (asked : IsRun words) × HasReadSession asked.0 before after Done text
+IsOutputForRead words unread before after Done text = ((asked : IsRun words) × HasReadSession asked.0 before after Done text) ⊎ ((asked : IsMade words) × unread × IsSummaryOf asked.0 text)
 IsOutputForRead words unread before after BadSession text = (asked : IsRun words) × HasReadSession asked.0 before after BadSession text
 IsOutputForRead words unread before after ReadFault text = ⊥
 IsOutputForRead words unread before after WriteFault text = ⊥
@@ -54,6 +54,10 @@ IsCutShort before after text = ((count : ℕ) × (count ≤ length text) × Gain
 -- the run ends with this status where the output is written, and else the sink failed within it
 abbrev pub IsWrittenOrCutShort : Seen → Seen → List ℕ → Status → Status → Type 0
 IsWrittenOrCutShort before after text status result = ((result ≡ status) × IsWritten before after text) ⊎ ((result ≡ WriteFault) × IsCutShort before after text)
+
+-- the summary of the generated session of n modules is written, or the sink failed within it, or memory was wanting and the sink was left alone
+abbrev pub IsMadeOrCutShort : ℕ → Type 0 → Seen → Seen → Status → Type 0
+IsMadeOrCutShort n unwritten before after result = ((text : List ℕ) × IsSummaryOf n text × IsWrittenOrCutShort before after text Done result) ⊎ ((result ≡ NoMemory) × unwritten)
 
 -- the output before this status is written
 abbrev pub HasWrittenOutput : List (List ℕ) → Type 0 → Seen → Seen → Seen → Seen → Status → Type 0

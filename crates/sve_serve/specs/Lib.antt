@@ -4,4 +4,5 @@ pub mod ExitCodes
 pub mod Honest
 pub mod Runs
 pub mod Serial
+pub mod Summary
 pub mod Words

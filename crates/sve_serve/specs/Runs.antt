@@ -8,21 +8,23 @@ use Rattle.sve_report.specs.declared.entry.Entry.{Entry}
 use Rattle.sve_report.specs.declared.record.Record.{Record}
 use Rattle.sve_serve.specs.declared.status.Status.{Status}
 use Rattle.sve_serve.specs.declared.status.Status.TheVariants.{Done, Usage, BadSession, ReadFault, WriteFault, TooLarge, NoMemory}
-use Rattle.sve_serve.specs.Honest.{Honest, run_budget, AreInTurn}
-use Rattle.sve_serve.specs.Serial.{IsReportInTurn}
+use Rattle.sve_serve.specs.Honest.{Honest, default_budget, run_budget, AreInTurn}
+use Rattle.sve_serve.specs.Serial.{IsReportInTurn, AreRecordsInTurn, opened}
+use Rattle.sve_serve.specs.Summary.{summary}
+use Rattle.sve_script.specs.Made.{made_session}
 use Rattle.sve_report.specs.Lines.{ended}
 use Rattle.sve_report.specs.Reports.{report}
 use Rattle.sve_words.specs.declared.request.Options.{Options}
 use Rattle.sve_words.specs.declared.request.Spoken.TheVariants.{Usage as NoRun}
 use Rattle.sve_words.specs.Words.{spoken}
-use Rattle.sve_serve.specs.Words.{IsRun}
+use Rattle.sve_serve.specs.Words.{IsRun, IsMade}
 
 -- the most bytes of a session
 abbrev pub max_session : ℕ
 max_session = 16777216
 
 abbrev pub usage_line : List ℕ
-usage_line = ended (codes "usage: svserve run [--budget N] [--serial]")
+usage_line = ended (codes "usage: svserve run [--budget N] [--serial] | svserve make N")
 
 abbrev pub not_json_line : List ℕ
 not_json_line = ended (codes "bad session: not JSON")
@@ -55,6 +57,14 @@ pub record IsReportOf (options : Options) (bytes text : List ℕ) : Type 0 where
   pub in_turn : AreInTurn options script.clients → IsReportInTurn (run_budget options) script.files script.clients text
   pub written : text ≡ report entries records
 
+-- The text is the summary of the run of the generated session of n modules: of records that its one client is told, each of whose commands comes at the newest
+-- revision. So `tree` and `diagnostics` tell of the opening files, and `type` of those that the commit leaves.
+abbrev pub IsSummaryOf : ℕ → List ℕ → Type 0
+IsSummaryOf n text =
+    (records : List (List Record))
+    × AreRecordsInTurn default_budget (opened (made_session n).files) 1 (made_session n).clients records
+    × (text ≡ summary n records)
+
 -- the line for bytes that are no session
 abbrev pub IsRefusalOf : List ℕ → List ℕ → Type 0
 IsRefusalOf bytes text =
@@ -79,9 +89,9 @@ IsOutputForSession options bytes WriteFault text = ⊥
 IsOutputForSession options bytes TooLarge text = ⊥
 IsOutputForSession options bytes NoMemory text = ⊥
 
--- The output for these words and these bytes of the source, and the status with which the run ends once it is written.
+-- The output for these words and these bytes of the source, and the status with which the run ends once it is written. A generated session needs no bytes.
 abbrev pub IsOutputFor : List (List ℕ) → List ℕ → Status → List ℕ → Type 0
-IsOutputFor words bytes Done text = (asked : IsRun words) × (length bytes ≤ max_session) × IsReportOf asked.0 bytes text
+IsOutputFor words bytes Done text = ((asked : IsRun words) × (length bytes ≤ max_session) × IsReportOf asked.0 bytes text) ⊎ ((asked : IsMade words) × IsSummaryOf asked.0 text)
 IsOutputFor words bytes Usage text = (spoken words ≡ NoRun) × (text ≡ usage_line)
 IsOutputFor words bytes BadSession text = IsRun words × (length bytes ≤ max_session) × IsRefusalOf bytes text
 IsOutputFor words bytes TooLarge text = IsRun words × (max_session < length bytes) × (text ≡ too_large_line)

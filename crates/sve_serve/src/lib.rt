@@ -5,6 +5,7 @@ pub mod laws;
 mod running;
 mod serving;
 mod status;
+mod summary;
 mod transfer;
 
 pub use serving::serve;

@@ -11,14 +11,15 @@ ghost use Rattle.sve_io.specs.Moves.{Loses, Gains};
 ghost use Rattle.sve_script.specs.declared.sessions.Script.{Script};
 ghost use Rattle.sve_script.specs.Limits.{AreInLimits};
 ghost use Rattle.sve_script.specs.Session.{IsSession};
-ghost use Rattle.sve_serve.specs.Endings.{Ends, IsWrittenOrCutShort};
-ghost use Rattle.sve_serve.specs.Runs.{max_session, usage_line, too_large_line, AreLeft, IsReportOf, IsRunOver, WritesItsOutput, IsOutputFor, IsOutputForSession, IsBad, word_of, shape_line, limit_line};
-ghost use Rattle.sve_serve.specs.Words.{IsRun};
+ghost use Rattle.sve_serve.specs.Endings.{Ends, IsMadeOrCutShort, IsWrittenOrCutShort};
+ghost use Rattle.sve_serve.specs.Runs.{max_session, usage_line, too_large_line, AreLeft, IsReportOf, IsRunOver, IsSummaryOf, WritesItsOutput, IsOutputFor, IsOutputForSession, IsBad, word_of, shape_line, limit_line};
+ghost use Rattle.sve_serve.specs.Words.{IsMade, IsRun};
 ghost use Rattle.sve_words.specs.declared.request.Options.{Options as OptionsSaid};
-ghost use Rattle.sve_words.specs.Words.{spoken};
+ghost use Rattle.sve_words.specs.Words.{spoken, IsInLimit};
 
 use crate::running::run;
 use crate::status::Status;
+use crate::summary::summary;
 use crate::transfer::{ReadError, read_session, write_text};
 use itoa::Buffer;
 use std::alloc::{AllocError, Global};
@@ -28,10 +29,10 @@ use sve_bytes::NoMemory;
 use sve_io::{Sink, Source};
 use sve_report::report_text;
 use sve_runner::{Gate, told_entries};
-use sve_script::{BadSession, Script, Which, script};
+use sve_script::{BadSession, Script, Which, made_session, script};
 use sve_words::{Options, Spoken, spoken};
 
-const USAGE_LINE: &[u8] = b"usage: svserve run [--budget N] [--serial]\n";
+const USAGE_LINE: &[u8] = b"usage: svserve run [--budget N] [--serial] | svserve make N\n";
 
 const NOT_JSON_LINE: &[u8] = b"bad session: not JSON\n";
 
@@ -45,16 +46,17 @@ struct Reply {
 }
 
 /// Does all that the program does: reads the words, then for `run` the session from the source to its end, runs its
-/// clients, and writes the report to the sink. A session has at most 16,777,216 bytes. Each client has a thread of its
-/// own, or shares the calling one where none can be had; with `--serial` they run one after another, and each command
-/// comes at the newest revision. Every thread is joined. In each ask the gate is told when the ask has its snapshot, and
-/// when it has its outcome. It may wait.
+/// clients, and writes the report to the sink; for `make` it runs the generated session of so many modules, and writes
+/// its summary. A session has at most 16,777,216 bytes. Each client has a thread of its own, or shares the calling one
+/// where none can be had; with `--serial` they run one after another, and each command comes at the newest revision.
+/// Every thread is joined. In each ask the gate is told when the ask has its snapshot, and when it has its outcome. It
+/// may wait.
 ///
 /// The words are `run` and its options: `--budget N` or `--budget=N`, the budget of asks that give none, in steps of
-/// elaboration, and `--serial`. It answers `Usage` where they are others; the source is then not read. It answers
-/// `ReadFault` and `WriteFault` where the source or the sink failed, `TooLarge` where there are more bytes than a session
-/// may have, `BadSession` where they are no session, and `NoMemory` where memory is wanting. Nothing is written before a
-/// `ReadFault` or a `NoMemory`.
+/// elaboration, and `--serial`; or they are `make` and a number of modules from 1 to 2,000. It answers `Usage` where they
+/// are others; then, and for `make`, the source is not read. It answers `ReadFault` and `WriteFault` where the source or
+/// the sink failed, `TooLarge` where there are more bytes than a session may have, `BadSession` where they are no
+/// session, and `NoMemory` where memory is wanting. Nothing is written before a `ReadFault` or a `NoMemory`.
 pub fn serve<R, S, K, G>(
     rt: &R,
     alloc: Global,
@@ -71,20 +73,27 @@ where
     // The bytes of the source are a session, and the sink gained the report of one legal history and of records that are
     // honest for it, whatever the schedule of the clients was. Where clients run one after another, each command comes at
     // the newest revision.
-    ensures headline { result ≡ Status.Done
-        → (options : OptionsSaid) × (spoken (map string_bytes words.now) ≡ Spoken.Run options)
-        × (bytes : List ℕ) × (text : List ℕ) × AreLeft (S.left source.old) bytes × IsReportOf options bytes text × Gains (K.held sink.old) (K.held sink.new) text }
+    ensures headline { (options : OptionsSaid) → spoken (map string_bytes words.now) ≡ Spoken.Run options → result ≡ Status.Done
+        → (bytes : List ℕ) × (text : List ℕ) × AreLeft (S.left source.old) bytes × IsReportOf options bytes text × Gains (K.held sink.old) (K.held sink.new) text }
+
+    // The sink gained the summary of the generated session.
+    ensures made { (n : ℕ) → spoken (map string_bytes words.now) ≡ Spoken.Make n → result ≡ Status.Done
+        → (text : List ℕ) × IsSummaryOf n text × Gains (K.held sink.old) (K.held sink.new) text }
+    ensures done_where { result ≡ Status.Done → IsRun (map string_bytes words.now) ⊎ IsMade (map string_bytes words.now) }
 
     // Where an output is written whole, words and bytes are those for which it is written, and the sink gained it.
     ensures said { WritesItsOutput result → (bytes : List ℕ) × (text : List ℕ) × AreLeft (S.left source.old) bytes
         × IsOutputFor (map string_bytes words.now) bytes result text × Gains (K.held sink.old) (K.held sink.new) text }
-    ensures read_to_end { (result ≡ Status.Done) ⊎ (result ≡ Status.BadSession) → IfSome (S.left source.new) (λ left. left ≡ []) }
+    ensures read_to_end { IsRun (map string_bytes words.now) → (result ≡ Status.Done) ⊎ (result ≡ Status.BadSession) → IfSome (S.left source.new) (λ left. left ≡ []) }
 
-    // Words that ask for nothing leave the source alone.
+    // Words that ask for nothing, or for a generated session, leave the source alone.
     ensures usage_only { result ≡ Status.Usage
         → (spoken (map string_bytes words.now) ≡ Spoken.Usage) × Gains (K.held sink.old) (K.held sink.new) usage_line }
     ensures usage_where { spoken (map string_bytes words.now) ≡ Spoken.Usage
         → (source.new ≡ source.old) × ((result ≡ Status.Usage) ⊎ (result ≡ Status.WriteFault) ⊎ (result ≡ Status.NoMemory)) }
+
+    ensures made_where { IsMade (map string_bytes words.now)
+        → (source.new ≡ source.old) × ((result ≡ Status.Done) ⊎ (result ≡ Status.WriteFault) ⊎ (result ≡ Status.NoMemory)) }
 
     // A fault has its cause in a count that rose, or stands at its last value.
     ensures read_fault { result ≡ Status.ReadFault → HasRisen (S.faults source.old) (S.faults source.new) × (sink.new ≡ sink.old) }
@@ -142,6 +151,7 @@ where
 {
     let options = match spoken(alloc, words) {
         Ok(Spoken::Run(options)) => options,
+        Ok(Spoken::Make(n)) => return make(rt, alloc, n, sink, gate),
         Ok(Spoken::Usage) => return say(sink, USAGE_LINE, Status::Usage),
         Err(AllocError) => return Status::NoMemory,
     };
@@ -155,6 +165,39 @@ where
         Ok(reply) => say(sink, &reply.text, reply.status),
         Err(AllocError) => Status::NoMemory,
     }
+}
+
+/// Runs the generated session of so many modules, and writes its summary.
+fn make<R, K, G>(rt: &R, alloc: Global, n: u32, sink: &mut K, gate: &G) -> Status
+where
+    R: Threads + Wait + Sync,
+    K: Sink,
+    G: Gate + Sync,
+    requires { IsInLimit (Spoken.Make n) }
+    ensures { IsMadeOrCutShort n (sink.new ≡ sink.old) (record { bytes = K.held sink.old; faults = K.faults sink.old })
+        (record { bytes = K.held sink.new; faults = K.faults sink.new }) result }
+{
+    match summary_of(rt, alloc, n, gate) {
+        Ok(text) => say(sink, &text, Status::Done),
+        Err(AllocError) => Status::NoMemory,
+    }
+}
+
+/// The summary of the run of the generated session of so many modules.
+fn summary_of<R, G>(rt: &R, alloc: Global, n: u32, gate: &G) -> Result<Vec<u8>, NoMemory>
+where
+    R: Threads + Wait + Sync,
+    G: Gate + Sync,
+    requires { IsInLimit (Spoken.Make n) }
+    ensures { IfOk result (λ text. IsSummaryOf n text.items) }
+{
+    let script = made_session(alloc, n)?;
+    let options = Options {
+        budget: None,
+        serial: true,
+    };
+    let ran = run(rt, alloc, options, script, gate)?;
+    summary(alloc, n, ran.records.items())
 }
 
 /// Writes the text before the run ends with this status.

@@ -1,17 +1,21 @@
 -- What the words of the command line ask for (own).
-use Rattle.std.specs.Prelude.{ℕ, ◌==◌, ◌&&◌, ◌||◌, Bool, true, false, not, List, [], ◌∷◌, Option, Some, None, fold, count_by, length, take, nat_le, nat_lt, bytes_eq, codes, decimal, if◌then◌else◌}
+use Rattle.std.specs.Prelude.{ℕ, ◌≤◌, ◌==◌, ◌&&◌, ◌||◌, Bool, true, false, not, List, [], ◌∷◌, Option, Some, None, fold, count_by, length, take, nat_le, nat_lt, bytes_eq, codes, decimal, if◌then◌else◌}
 use Rattle.std.specs.List.{list_any}
 use Rattle.std.specs.Str.Parse.{digits_value}
 use Rattle.clap.specs.Lexer.{long_of}
 use Rattle.sve_words.specs.declared.request.Spoken.{Spoken}
-use Rattle.sve_words.specs.declared.request.Spoken.TheVariants.{Run, Usage}
-use Rattle.sve_words.specs.declared.number.TheConstants.{MAX_BUDGET}
+use Rattle.sve_words.specs.declared.request.Spoken.TheVariants.{Run, Make, Usage}
+use Rattle.sve_words.specs.declared.digits.TheConstants.{MAX_BUDGET, MAX_MADE}
 
--- the number of steps that the text writes: the decimal digits of a number from 1 to the most, without sign or leading zero
-abbrev pub number_of : List ℕ → Option ℕ
-number_of text =
+-- the number that the text writes: the decimal digits of a number from 1 to the most, without sign or leading zero
+abbrev pub number_to : ℕ → List ℕ → Option ℕ
+number_to most text =
     let n = digits_value 10 text in
-    if nat_le 1 n && nat_le n MAX_BUDGET && bytes_eq (decimal n) text then Some n else None
+    if nat_le 1 n && nat_le n most && bytes_eq (decimal n) text then Some n else None
+
+-- the number of steps that it writes
+abbrev pub number_of : List ℕ → Option ℕ
+number_of text = number_to MAX_BUDGET text
 
 -- what is said by the words so far
 pub data Said : Type 0 where
@@ -96,7 +100,23 @@ options words =
     if list_any is_foreign words || is_said_twice (codes "--budget") (codes "--budget=") words || is_said_twice (codes "--serial") (codes "--serial=") words then Usage
     else asked (said_by words)
 
--- `run` and its options
+abbrev pub made_of : Option ℕ → Spoken
+made_of None = Usage
+made_of (Some n) = Make n
+
+-- the words behind `make`: one number of modules
+abbrev pub generated : List (List ℕ) → Spoken
+generated [] = Usage
+generated (word ∷ []) = made_of (number_to MAX_MADE word)
+generated (word ∷ other ∷ words) = Usage
+
+-- `run` and its options, or `make N`
 abbrev pub spoken : List (List ℕ) → Spoken
 spoken [] = Usage
-spoken (word ∷ words) = if bytes_eq word (codes "run") then options words else Usage
+spoken (word ∷ words) = if bytes_eq word (codes "run") then options words else (if bytes_eq word (codes "make") then generated words else Usage)
+
+-- a number of modules is one that a session may be generated of
+abbrev pub IsInLimit : Spoken → Type 0
+IsInLimit (Run options) = Unit {0}
+IsInLimit (Make n) = (1 ≤ n) × (n ≤ MAX_MADE)
+IsInLimit Usage = Unit {0}

@@ -1,9 +1,10 @@
 //! The words of the command line, and what they ask for.
 #![tactic(auto)]
 
-mod number;
+mod digits;
 mod options;
 mod request;
 
+pub use digits::{MAX_MADE, number};
 pub use options::spoken;
 pub use request::{Options, Spoken};

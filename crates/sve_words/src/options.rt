@@ -1,28 +1,31 @@
-//! The words behind `run`.
+//! What the words ask for, and the words behind `run`.
 ghost use Rattle.std.specs.Prelude.{◌≡◌, false, map, string_bytes, option_map, IfOk};
 ghost use Rattle.std.specs.List.{list_any};
 ghost use Rattle.clap.specs.Words.{app_of};
 ghost use Rattle.sve_words.specs.Command.{options_app};
-ghost use Rattle.sve_words.specs.Words.{with_budget, asked, said_by, is_short, is_foreign, says, is_said_twice, options, spoken};
+ghost use Rattle.sve_words.specs.Words.{with_budget, asked, said_by, is_short, is_foreign, says, is_said_twice, options, generated, spoken, IsInLimit};
 
-use crate::number::number;
+use crate::digits::{MAX_BUDGET, MAX_MADE, number};
 use crate::request::{Options, Spoken};
 use clap::error::ErrorKind;
 use clap::{Arg, ArgAction, Command};
 use std::alloc::{AllocError, Global};
 
 /// What the words ask for: `run`, and behind it `--budget N` or `--budget=N` and `--serial`, in any order and each at
-/// most once, or nothing. The program's name is none of the words.
+/// most once; or `make N` with a number of modules; or nothing. The program's name is none of the words.
 ///
 /// # Errors
 /// Only for want of memory.
 pub fn spoken(alloc: Global, words: &[String]) -> Result<Spoken, AllocError>
-    ensures { IfOk result (λ s. s ≡ spoken (map string_bytes words.now)) }
+    ensures said { IfOk result (λ s. s ≡ spoken (map string_bytes words.now)) }
+    ensures in_limit { IfOk result IsInLimit }
 {
     match words {
         [word, rest @ ..] => {
             if word.as_str() == "run" {
                 options(alloc, rest)
+            } else if word.as_str() == "make" {
+                Ok(generated(rest))
             } else {
                 Ok(Spoken::Usage)
             }
@@ -31,9 +34,24 @@ pub fn spoken(alloc: Global, words: &[String]) -> Result<Spoken, AllocError>
     }
 }
 
+/// What the words behind `make` ask for: they are one, a number of modules.
+fn generated(words: &[String]) -> Spoken
+    ensures said { result ≡ generated (map string_bytes words.now) }
+    ensures in_limit { IsInLimit result }
+{
+    let [word] = words else {
+        return Spoken::Usage;
+    };
+    let Some(n) = number(word, MAX_MADE) else {
+        return Spoken::Usage;
+    };
+    Spoken::Make(n)
+}
+
 /// What the words behind `run` ask for.
 fn options(alloc: Global, words: &[String]) -> Result<Spoken, AllocError>
-    ensures { IfOk result (λ s. s ≡ options (map string_bytes words.now)) }
+    ensures said { IfOk result (λ s. s ≡ options (map string_bytes words.now)) }
+    ensures in_limit { IfOk result IsInLimit }
 {
     if has_foreign(words)
         || is_said_twice("--budget", "--budget=", words)
@@ -47,7 +65,8 @@ fn options(alloc: Global, words: &[String]) -> Result<Spoken, AllocError>
 /// What the words ask for as `clap` reads them, where no foreign word is among them.
 fn read(alloc: Global, words: &[String]) -> Result<Spoken, AllocError>
     requires { list_any is_foreign (map string_bytes words.now) ≡ false }
-    ensures { IfOk result (λ s. s ≡ asked (said_by (map string_bytes words.now))) }
+    ensures said { IfOk result (λ s. s ≡ asked (said_by (map string_bytes words.now))) }
+    ensures in_limit { IfOk result IsInLimit }
 {
     let command = command(alloc)?;
     match command.try_get_matches_from(words) {
@@ -61,7 +80,8 @@ fn read(alloc: Global, words: &[String]) -> Result<Spoken, AllocError>
 
 /// The run with this budget, where one is said and is a number of steps.
 fn with_budget(budget: Option<&str>, serial: bool) -> Spoken
-    ensures { result ≡ with_budget (option_map (λ text. text.now) budget.entry) serial }
+    ensures said { result ≡ with_budget (option_map (λ text. text.now) budget.entry) serial }
+    ensures in_limit { IsInLimit result }
 {
     let Some(text) = budget else {
         return Spoken::Run(Options {
@@ -69,7 +89,7 @@ fn with_budget(budget: Option<&str>, serial: bool) -> Spoken
             serial,
         });
     };
-    match number(text) {
+    match number(text, MAX_BUDGET) {
         Some(n) => Spoken::Run(Options {
             budget: Some(n),
             serial,

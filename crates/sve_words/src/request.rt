@@ -12,6 +12,8 @@ pub struct Options {
 pub enum Spoken {
     /// A run with these options.
     Run(Options),
+    /// The generated session of so many modules, from 1 to 2,000.
+    Make(u32),
     /// Nothing: they are of no stated form.
     Usage,
 }

@@ -16,10 +16,13 @@ returns g c =
     let e = c.served.ensures in
     record {
       headline = cause.headline words unread unwritten s s' k k' r e;
+      made = cause.made words unread unwritten s s' k k' r e;
+      done_where = cause.done_where words unread unwritten s s' k k' r e;
       said = cause.said words unread unwritten s s' k k' r e;
       read_to_end = cause.read_to_end words unread unwritten s s' k k' r e;
       usage_only = cause.usage_only words unread unwritten s s' k k' r e;
       usage_where = cause.usage_where words unread unwritten s s' k k' r e;
+      made_where = cause.made_where words unread unwritten s s' k k' r e;
       read_fault = cause.read_fault words unread unwritten s s' k k' r e;
       write_fault = cause.write_fault words unread unwritten s s' k k' r e;
       cut_short = cause.cut_short words unread unwritten s s' k k' r e;
