@@ -1,0 +1,4 @@
+pub mod Visits
+pub mod Shows
+pub mod Surveys
+pub mod Among

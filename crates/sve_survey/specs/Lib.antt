@@ -1,0 +1,5 @@
+pub mod Seen
+pub mod Visitors
+pub mod Showing
+pub mod Notes
+pub mod Lint
