@@ -16,6 +16,10 @@ one_some o a b first second = cc
 pub none_some : {A : Type 0} (o : Option A) (a : A) → o ≡ None → o ≡ Some a → ⊥
 none_some o a none some = absurd (cc)
 
+pub mapped_twice : {A B C : Type 0} (f : A → B) (g : B → C) (o : Option A) → option_map (λ x. g (f x)) o ≡ option_map g (option_map f o)
+mapped_twice f g None = refl
+mapped_twice f g (Some x) = refl
+
 pub over_fresh : {A : Type 0} (o p : Option A) (x : A) → o ≡ Some x → first_of o p ≡ Some x
 over_fresh o p x is = ap (λ y. first_of y p) is
 

@@ -149,7 +149,8 @@ pub(crate) fn handed<K: Keyed>(memo: &Memo<K::Key, K::Value>) -> Result<(Arc<K::
     ensures { MatchResult result (λ pair. (arc_value pair.0 ≡ memo.now.finding.value) × (pair.1 ≡ memo.now.finding.stamp)) (λ halt. halt ≡ NoMoreMemory) }
 {
     let value = Arc::try_clone(memo.value())?;
-    Ok((value, memo.stamp()))
+    let stamp = memo.stamp();
+    Ok((value, stamp))
 }
 
 /// Puts a memo among the fresh ones, and hands out its value with its stamp.
