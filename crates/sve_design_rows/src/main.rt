@@ -7,12 +7,14 @@
 
 mod finds;
 mod names;
+mod surveys;
 mod walks;
 
 use finds::find_row;
 use names::{instances_row, resolve_row};
 use std::alloc::Global;
 use std::io;
+use surveys::{lint_row, notes_row};
 use sve_bytes::NoMemory;
 use sve_listed::answer_of;
 use sve_row::{Table, answer_lines};
@@ -27,6 +29,8 @@ impl Table for Designs {
         match kind {
             "walk" => answer_of(walk_row(alloc, row)),
             "count" => answer_of(count_row(alloc, row)),
+            "notes" => answer_of(notes_row(alloc, row)),
+            "lint" => answer_of(lint_row(alloc, row)),
             "find" => answer_of(find_row(alloc, row)),
             "instances" => answer_of(instances_row(alloc, row)),
             "resolve" => answer_of(resolve_row(alloc, row)),

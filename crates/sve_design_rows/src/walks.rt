@@ -55,7 +55,7 @@ pub fn walk_row(alloc: Global, row: &str) -> Result<String, Unread> {
 }
 
 /// Adds `file:chunk:token code name`.
-fn add_note(out: &mut String, note: &Note) -> Result<(), NoMemory> {
+pub fn add_note(out: &mut String, note: &Note) -> Result<(), NoMemory> {
     out.push_str(", ")?;
     spell(out, note.file.bytes())?;
     let Note { chunk, token, .. } = note;

@@ -1,7 +1,8 @@
 //! Bodies as rows write them: `NAME COST ITEM ..`, the body of a module whose text is chunk 0 of the file `NAME`. Each item is a word,
 //! and the token of its name is its number among them, from 1.
 //!
-//! - `PATH:NAME`: an instance at this path of this module.
+//! - `PATH:NAME`: an instance at this path of this module; `PATH:NAME!PORT!PORT`: one whose ports of these names are connected to
+//!   nothing.
 //! - `+PATH`: a generate block at this path.
 //! - `#NAME=VALUE`: a parameter with this value; a string is written `#NAME="BYTES"`.
 //! - `>NAME:TYPE`, `<NAME:TYPE`, `*NAME:TYPE`: an input, an output, an inout of this type.
@@ -45,8 +46,21 @@ fn shared_type(alloc: Global, word: &str) -> Result<SharedType, Unread> {
     type_of(alloc, word)?.ok_or(Unread::NoForm)
 }
 
-/// An instance.
-fn child(alloc: Global, at: &str, module: &str, token: u32) -> Result<Child, Unread> {
+/// The names of ports, which `!` parts.
+fn port_names(alloc: Global, word: &str) -> Result<Vec<Name>, Unread> {
+    let mut names = Vec::new(alloc);
+    for one in word.split('!') {
+        names.push(name(alloc, one)?)?;
+    }
+    Ok(names)
+}
+
+/// An instance of the module that a word names, with the names of its ports that are connected to nothing behind that.
+fn child(alloc: Global, at: &str, written: &str, token: u32) -> Result<Child, Unread> {
+    let (module, unconnected) = match written.split_once("!") {
+        Some((module, ports)) => (module, port_names(alloc, ports)?),
+        None => (written, Vec::new(alloc)),
+    };
     Ok(Child {
         path: path(alloc, at)?,
         spec: Spec {
@@ -55,7 +69,7 @@ fn child(alloc: Global, at: &str, module: &str, token: u32) -> Result<Child, Unr
             faces: Vec::new(alloc),
         },
         token,
-        unconnected: List::of(Vec::new(alloc)),
+        unconnected: List::of(unconnected),
     })
 }
 
