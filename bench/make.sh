@@ -30,9 +30,11 @@ for count in 500 2000; do
     sed 's/^/  /' "$work/summary"
     if command -v iverilog >/dev/null; then
         design "$count" "$work/$count" || exit 1
-        cd "$work/$count" || exit 1
-        for _ in 1 2 3; do
-            /usr/bin/time -f '  iverilog -t null: %U s of processor, peak %M KiB' iverilog -g2012 -t null pkg.sv leaf*.sv top.sv
-        done
+        (
+            cd "$work/$count" || exit 1
+            for _ in 1 2 3; do
+                /usr/bin/time -f '  iverilog -t null: %U s of processor, peak %M KiB' iverilog -g2012 -t null pkg.sv leaf*.sv top.sv
+            done
+        )
     fi
 done
