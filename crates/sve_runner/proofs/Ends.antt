@@ -31,7 +31,7 @@ use Rattle.sve_report.specs.declared.record.Record.{Record}
 use Rattle.sve_report.specs.declared.record.Record.TheVariants.{Accepted, Refused, Answered, Cancelled, Spent}
 use Rattle.sve_runner.specs.declared.terms.Terms.{Terms}
 use Rattle.sve_runner.specs.declared.told.Told.{Told}
-use Rattle.sve_runner.specs.Honest.{budget_under, commands_at, command_in, edits_in, told_entry, told_entries, script_entries, front_after, front_at, accepted_from, is_commit, IsOfScript, files_of, IsHonest, Walks, AreHonestFrom, AreHonest}
+use Rattle.sve_runner.specs.Honest.{budget_under, commands_at, command_in, edits_in, told_entry, told_entries, script_entries, history_by, front_after, front_at, accepted_from, is_commit, IsOfScript, files_of, IsHonest, Walks, AreHonestFrom, AreHonest}
 use Rattle.sve_runner.specs.Told.{IsHonestIn, WalksIn, HasWalked, HasLeft, all_told, records_of, records_told}
 use Rattle.sve_runner.specs.declared.stop.Stop.{Stop}
 use Rattle.sve_runner.specs.declared.stop.Stop.TheVariants.{Full}
@@ -139,6 +139,12 @@ module _ (answers : FilesValue → Query → ℕ → Answer → Type 0) (terms :
 
   script_made : script_entries clients (told_entries history) ≡ history.entries
   script_made = made_are clients history.entries ∙ sym made
+
+  -- it is told by its entries
+  pub by_script : history ≡ history_by opening clients (told_entries history)
+  by_script =
+      let by : List Made → HistoryValue = λ (l : List Made). record { opening = opening; entries = l } in
+      ended.plan ∙ ap by (sym (made_are clients history.entries))
 
   size : length (told_entries history) ≡ length history.entries
   size = length-map history.entries told_entry

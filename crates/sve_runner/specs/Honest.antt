@@ -49,6 +49,10 @@ told_entries history = map told_entry history.entries
 abbrev pub script_entries : List (List Command) → List Entry → List Made
 script_entries clients entries = map (λ entry. entry_by (edits_in clients) entry.client entry.command) entries
 
+-- the history of these opening files with these entries, as commits of a script
+abbrev pub history_by : FilesValue → List (List Command) → List Entry → HistoryValue
+history_by opening clients entries = record { opening = opening; entries = script_entries clients entries }
+
 -- the budget and the mode of an ask that gives these
 abbrev pub budget_under : Terms → Option ℕ → ℕ
 budget_under terms given = unwrap_or given terms.budget
@@ -132,6 +136,6 @@ module _ (answers : FilesValue → Query → ℕ → Answer → Type 0) (terms :
 
   -- The records are honest for the history: it is legal and holds commits of the script alone, and each client's records tell of it.
   pub record AreHonest (entries : List Entry) (records : List (List Record)) : Type 0 where
-    pub legal : IsLegal (record { opening = opening; entries = script_entries clients entries })
+    pub legal : IsLegal (history_by opening clients entries)
     pub theirs : AllByRecursion (IsOfScript clients) entries
     pub told : AreHonestFrom entries 1 0 clients records

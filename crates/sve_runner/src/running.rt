@@ -1,7 +1,7 @@
 //! All clients of a script, from the opening of their session to its end.
 ghost use Rattle.std.specs.Prelude.{◌≡◌, ◌<◌, ◌≤◌, ◌^◌, ℕ, Some, Err, length, slice_get, sum_by, IfOk};
 ghost use Rattle.sve_history.specs.Histories.{IsOpening};
-ghost use Rattle.sve_runner.specs.Honest.{told_entries, AreHonest};
+ghost use Rattle.sve_runner.specs.Honest.{history_by, told_entries, AreHonest};
 ghost use Rattle.sve_runner.specs.Told.{answers_by, AreFew, all_told, records_told, counts_told};
 
 use crate::gate::Gate;
@@ -51,7 +51,8 @@ where
     requires clients { (0 < length clients.now) × (length clients.now ≤ 16) }
     requires few { AreFew clients.now }
     requires opening { IsOpening files }
-    ensures { IfOk result (λ ran. AreHonest (answers_by K.Key.cmp K.given K.make K.answers_over) terms files clients.now (told_entries ran.history) ran.records) }
+    ensures history { IfOk result (λ ran. ran.history ≡ history_by files clients.now (told_entries ran.history)) }
+    ensures honest { IfOk result (λ ran. AreHonest (answers_by K.Key.cmp K.given K.make K.answers_over) terms files clients.now (told_entries ran.history) ran.records) }
 {
     let script = ScriptClient {
         clients,

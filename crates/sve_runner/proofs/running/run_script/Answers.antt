@@ -7,7 +7,7 @@ use Rattle.sve_rope.proofs.run.Run.TheSendSync as run
 use Rattle.sve_rope.proofs.tree.Tree.TheLaws.TheKnot as rope
 use Rattle.sve_runner.specs.Honest.{told_entries, AreHonest}
 use Rattle.sve_runner.specs.Told.{answers_by}
-use Rattle.sve_runner.proofs.Ends.{never_full, all_honest}
+use Rattle.sve_runner.proofs.Ends.{by_script, never_full, all_honest}
 use Rattle.sve_runner.proofs.running.run_script.Goals as goal
 
 -- the clients share the commands and the gate
@@ -32,4 +32,7 @@ returns g c =
     let ended = c.in_ok-ended.ended in
     let all = c.in_ok-ended.ensures in
     let honest = all_honest answers c.args.terms c.args.files c.args.clients.now ended.history all.history c.command_count.result ended.left all.count all.left c.in_ok-all.all.items c.in_ok-all.ensures in
-    subst (AreHonest answers c.args.terms c.args.files c.args.clients.now (told_entries ended.history)) (sym (c.of.ensures ∙ c.in_ok-records.ensures.0)) honest
+    record {
+      history = by_script answers c.args.terms c.args.files c.args.clients.now ended.history all.history;
+      honest = subst (AreHonest answers c.args.terms c.args.files c.args.clients.now (told_entries ended.history)) (sym (c.of.ensures ∙ c.in_ok-records.ensures.0)) honest;
+    }
