@@ -3,3 +3,4 @@ pub mod Places
 pub mod Answers
 pub mod Resolving
 pub mod Queries
+pub mod Linting

@@ -2,6 +2,7 @@
 #![tactic(auto)]
 
 mod deep;
+mod finding;
 mod instance;
 mod lines;
 mod rule;
@@ -9,6 +10,7 @@ mod running;
 mod unconnected;
 
 pub use deep::Deep;
+pub use finding::lines_found;
 pub use instance::{Finding, InstanceFacts, UnconnectedPort};
 pub use lines::lint_lines;
 pub use rule::Rule;

@@ -1,4 +1,5 @@
-//! The kinds of key over the files of a revision, and the answers of queries over them.
+//! The kinds of key over the files of a revision, and the answers of queries over them. What lint rules find in the design of the files is passed
+//! on.
 #![tactic(auto)]
 
 mod answering;
@@ -8,4 +9,5 @@ pub mod laws;
 mod lists;
 mod svq;
 
+pub use sve_design_answers::lint_section;
 pub use svq::Svq;
