@@ -11,12 +11,15 @@
 //! - `hold!PLACE>PLACE` holds whoever comes to the first place until somebody has come to the second one; it may stand several
 //!   times. A place is `b` or `a`, a client, a point and a command, as `b1.2`: before the work of the ask, or after it.
 //!   `held too long` follows the exit status where a client was held for a billion turns.
+//! - `count!N` hands in N lint rules more, behind those of the program, which find nothing; `dropped` and how often each of them
+//!   was follows the exit status.
 //! - `run repeat!N | FRONT | UNIT | BETWEEN | BACK` has as its bytes FRONT, then N times UNIT with BETWEEN between them, then
 //!   BACK, each without the blanks round it. `#` in UNIT stands for the number of the turn, from 0. Both ends then move
 //!   65,536 bytes a call, and where the sink holds more than one line, only their number is told.
 //! - `%` and two hexadecimal digits stand for the byte with that number.
 #![tactic(auto)]
 
+mod counting;
 mod gate;
 mod row;
 mod running;

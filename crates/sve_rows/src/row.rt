@@ -23,6 +23,8 @@ pub struct Row {
     pub is_free: bool,
     /// Who is held where.
     pub holds: Vec<Hold>,
+    /// How many rules that count their drops are handed in.
+    pub counting: u32,
     /// What the source gives.
     pub bytes: Vec<u8>,
 }
@@ -37,6 +39,7 @@ pub fn row_of(alloc: Global, line: &str) -> Result<Row, AllocError> {
         times: None,
         is_free: false,
         holds: Vec::new(alloc),
+        counting: 0,
         bytes: Vec::new(alloc),
     };
     for word in front.split_whitespace() {
@@ -64,6 +67,7 @@ fn add_word(alloc: Global, row: &mut Row, word: &str) -> Result<(), AllocError> 
         Some(("write", number)) => row.failing_writes.push(number.parse::<u64>().unwrap_or(0))?,
         Some(("repeat", number)) => row.times = number.parse::<u32>().ok(),
         Some(("schedule", "any")) => row.is_free = true,
+        Some(("count", number)) => row.counting = number.parse::<u32>().unwrap_or(0),
         Some(("hold", places)) => add_hold(&mut row.holds, places)?,
         _ => row.words.push(String::from_str(alloc, word)?)?,
     }

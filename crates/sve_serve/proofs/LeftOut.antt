@@ -1,10 +1,10 @@
 -- Bytes that are no text write no number.
-use Rattle.std.proofs.Common.{◌≡◌, ℕ, ◌-◌, ◌^◌, Bool, true, false, List, Option, None, take, drop, cond, codes, decimal, bytes_eq, refl, subst, arith}
+use Rattle.std.proofs.Common.{◌≡◌, ℕ, ◌-◌, ◌^◌, Bool, true, false, List, None, take, drop, cond, codes, decimal, bytes_eq, refl, subst, arith}
 use Rattle.std.specs.Str.{IsUtf8}
 use Rattle.std.proofs.lemmas.Fmt.{IsAscii-decimal}
 use Rattle.std.proofs.lemmas.Str.{IsUtf8-from_ascii}
 use Rattle.sve_words.specs.Words.{number_to}
-use Rattle.sve_words.proofs.Numbers.{Writes, no_number}
+use Rattle.sve_words.proofs.Numbers.{no_number}
 use Rattle.sve_serve.specs.Summary.{left_out}
 
 no_digits : (digits : List ℕ) → (IsUtf8 digits → ⊥) → number_to (2 ^ 32 - 1) digits ≡ None

@@ -4,6 +4,7 @@ pub mod Endings
 pub mod InTurn
 pub mod LeftOut
 pub mod OneReport
+pub mod Reported
 pub mod Sessions
 pub mod SmallestRun
 pub mod SmallestSummary

@@ -7,7 +7,7 @@ use Rattle.sve_command.specs.declared.commands.Command.TheVariants.{Commit, Ask}
 use Rattle.sve_report.specs.declared.record.Record.{Record}
 use Rattle.sve_report.specs.Reports.{report}
 use Rattle.sve_query.proofs.OneAnswer.{one_answer}
-use Rattle.sve_serve.specs.Serial.{Revisions, ask_record, IsRecordOf, revisions_after_one, AreRecordsOf, revisions_after, revisions_in_turn, AreRecordsInTurn, opened, IsReportInTurn, HasOneAnswer, HaveOneAnswer}
+use Rattle.sve_serve.specs.Serial.{Revisions, ask_record, IsRecordOf, revisions_after_one, AreRecordsOf, revisions_after, AreRecordsInTurn, opened, IsReportInTurn, HasOneAnswer, HaveOneAnswer}
 
 one_record : (given : ℕ) (h : Revisions) (command : Command) (rec rec' : Record) → HasOneAnswer command → IsRecordOf given h command rec → IsRecordOf given h command rec' → rec ≡ rec'
 one_record given h (Commit edits) rec rec' one is is' = is ∙ sym is'
@@ -38,5 +38,7 @@ same_in_turn given h i (commands ∷ clients) (recs ∷ records) (recs' ∷ reco
     λ k. first k ∷ rest k
 
 pub one_report : (given : ℕ) (files : FilesValue) (clients : List (List Command)) → HaveOneAnswer clients → (text other : List ℕ) → IsReportInTurn given files clients text → IsReportInTurn given files clients other → text ≡ other
-one_report given files clients one text other (records, are, is) (records', are', is') =
-    is ∙ ap (report (revisions_in_turn (opened files) 1 clients).entries) (same_in_turn given (opened files) 1 clients records records' one are are') ∙ sym is'
+one_report given files clients one text other (entries, records, (are, told), is) (entries', records', (are', told'), is') =
+    let same_entries : entries ≡ entries' = told ∙ sym told' in
+    let told_same : records ≡ records' = same_in_turn given (opened files) 1 clients records records' one are are' in
+    is ∙ (λ k. report (same_entries k) (told_same k)) ∙ sym is'

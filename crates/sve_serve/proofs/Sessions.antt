@@ -1,5 +1,5 @@
 -- What is known of a session that was read, and of the report of its run.
-use Rattle.std.proofs.Common.{◌≡◌, ℕ, ◌<◌, ◌≤◌, ◌^◌, ◌⊎◌, inl, inr, List, Option, Some, None, true, refl, if◌then◌else◌, sym, ap, ◌∙◌, subst, arith}
+use Rattle.std.proofs.Common.{◌≡◌, ℕ, ◌<◌, ◌≤◌, ◌^◌, ◌⊎◌, inl, inr, List, Option, Some, None, true, false, refl, if◌then◌else◌, sym, ap, subst, arith}
 use Rattle.std.specs.Prelude.{All, Bool, IfOk, Result, Ok, Err, length}
 use Rattle.std.proofs.lemmas.List.Elements.{All-weaker}
 use Rattle.sve_text.specs.Files.{opening_files}
@@ -17,7 +17,7 @@ use Rattle.sve_script.specs.Made.{made_files, made_session}
 use Rattle.sve_script.specs.Session.{within as in_limits, session_from, parts_of, IsSession}
 use Rattle.sve_report.specs.declared.entry.Entry.{Entry}
 use Rattle.sve_report.specs.declared.record.Record.{Record}
-use Rattle.sve_report.specs.Reports.{report}
+use Rattle.sve_lint.specs.Rules.{RuleState}
 use Rattle.sve_runner.specs.Told.{AreFew}
 use Rattle.sve_words.specs.declared.request.Options.{Options}
 use Rattle.sve_serve.specs.Honest.{default_budget, run_order, terms_of, Honest, AreInTurn}
@@ -27,6 +27,7 @@ use Rattle.sve_serve.specs.declared.status.Status.TheVariants.{Done}
 use Rattle.sve_serve.specs.Runs.{IsReportOf, IsOutputForSession, IsSummaryOf}
 use Rattle.sve_serve.specs.Serial.{AreRecordsInTurn, opened}
 use Rattle.sve_serve.specs.Summary.{summary}
+use Rattle.sve_serve.specs.Texts.{IsTextOf, last_files}
 use Rattle.sve_serve.proofs.InTurn.{are_in_turn}
 
 -- ---- its opening files
@@ -59,22 +60,24 @@ in_turn : (options : Options) (clients : List (List Command)) → AreInTurn opti
 in_turn options clients (inl serial) = inl (ap (λ (b : Bool). if b then InTurn else AtOnce) serial)
 in_turn options clients (inr one) = inr one
 
-pub reported : (options : Options) (bytes text : List ℕ) (script : Script) (entries : List Entry) (records : List (List Record)) → IsSession bytes script → Honest options script entries records → text ≡ report entries records → IsReportOf options bytes text
-reported options bytes text script entries records session honest written = record {
+pub reported : (options : Options) (rules : List RuleState) (bytes text : List ℕ) (script : Script) (entries : List Entry) (records : List (List Record)) → IsSession bytes script → Honest options script entries records
+    → IsTextOf options rules (last_files script entries) entries records text → IsReportOf options rules bytes text
+reported options rules bytes text script entries records session honest written = record {
   script = script;
   entries = entries;
   records = records;
   session = session;
   honest = honest;
-  in_turn = λ turns. let told = are_in_turn (terms_of options) script.files script.clients entries records (in_turn options script.clients turns) honest in (records, told.0, written ∙ ap (λ (es : List Entry). report es records) told.1);
+  in_turn = λ turns. are_in_turn (terms_of options) script.files script.clients entries records (in_turn options script.clients turns) honest;
   written = written;
 }
 
-pub reported_output : {E : Type 0} (options : Options) (bytes : List ℕ) (script : Script) (r : Result Reply E) → IsSession bytes script → IfOk r (λ reply. reply.status ≡ Done)
-    → IfOk r (λ reply. (entries : List Entry) × (records : List (List Record)) × Honest options script entries records × (reply.text.items ≡ report entries records)) → IfOk r (λ reply. IsOutputForSession options bytes reply.status reply.text.items)
-reported_output options bytes script (Ok reply) session done (entries, records, honest, written) =
-    subst (λ (s : Status). IsOutputForSession options bytes s reply.text.items) (sym done) (reported options bytes reply.text.items script entries records session honest written)
-reported_output options bytes script (Err e) session done text = tt
+pub reported_output : {E : Type 0} (options : Options) (rules : List RuleState) (bytes : List ℕ) (script : Script) (r : Result Reply E) → IsSession bytes script → IfOk r (λ reply. reply.status ≡ Done)
+    → IfOk r (λ reply. (entries : List Entry) × (records : List (List Record)) × Honest options script entries records × IsTextOf options rules (last_files script entries) entries records reply.text.items)
+    → IfOk r (λ reply. IsOutputForSession options rules bytes reply.status reply.text.items)
+reported_output options rules bytes script (Ok reply) session done (entries, records, honest, written) =
+    subst (λ (s : Status). IsOutputForSession options rules bytes s reply.text.items) (sym done) (reported options rules bytes reply.text.items script entries records session honest written)
+reported_output options rules bytes script (Err e) session done text = tt
 
 -- ---- the generated session
 
@@ -83,7 +86,7 @@ pub made_opening : (n : ℕ) (script : Script) → script ≡ made_session n →
 made_opening n script is = subst (λ (s : Script). IsOpening s.files) (sym is) (opening_files_are_untouched (made_files n))
 
 abbrev made_options : Options
-made_options = record { budget = None; serial = true }
+made_options = record { budget = None; serial = true; lint = false }
 
 pub summed_up : (n : ℕ) (script : Script) (entries : List Entry) (records : List (List Record)) (text : List ℕ) → script ≡ made_session n → Honest made_options script entries records → text ≡ summary n records → IsSummaryOf n text
 summed_up n script entries records text is honest written =

@@ -8,6 +8,7 @@ use Rattle.sve_command.specs.declared.commands.Command.{Command}
 use Rattle.sve_command.specs.declared.commands.Command.TheVariants.{Commit, Ask}
 use Rattle.sve_command.specs.declared.commands.Query.TheVariants.{File}
 use Rattle.sve_store.specs.declared.answer.Answer.TheVariants.{Done}
+use Rattle.sve_report.specs.declared.entry.Entry.{Entry}
 use Rattle.sve_report.specs.declared.record.Record.{Record}
 use Rattle.sve_report.specs.declared.record.Record.TheVariants.{Accepted, Answered}
 use Rattle.sve_serve.specs.Answers.{IsAnswerAt}
@@ -34,9 +35,12 @@ absent_answer = refl
 abbrev commands : List Command
 commands = Commit (Put (codes "a.sv") text ∷ []) ∷ Ask (File (codes "a.sv")) Latest None ∷ []
 
+abbrev entries : List Entry
+entries = record { client = 1; command = 1 } ∷ []
+
 abbrev records : List (List Record)
 records = (Accepted 1 ∷ Answered 1 lines ∷ []) ∷ []
 
 smallest_report : IsReportInTurn 1000000 (opening_files []) (commands ∷ []) (codes "history 1\n1 1 1\nclient 1\n1 accepted 1\n2 answer 1 4\nstamp 1 bytes 20\n|module a;\n|endmodule\n|\n")
 unfolding digits text
-smallest_report = (records, ((refl, ((Done lines, refl, refl), tt)), tt), refl)
+smallest_report = (entries, records, (((refl, ((Done lines, refl, refl), tt)), tt), refl), refl)

@@ -5,4 +5,5 @@ pub mod Honest
 pub mod Runs
 pub mod Serial
 pub mod Summary
+pub mod Texts
 pub mod Words

@@ -9,11 +9,12 @@ use Rattle.sve_report.specs.declared.record.Record.{Record}
 use Rattle.sve_serve.specs.declared.status.Status.{Status}
 use Rattle.sve_serve.specs.declared.status.Status.TheVariants.{Done, Usage, BadSession, ReadFault, WriteFault, TooLarge, NoMemory}
 use Rattle.sve_serve.specs.Honest.{Honest, default_budget, run_budget, AreInTurn}
-use Rattle.sve_serve.specs.Serial.{IsReportInTurn, AreRecordsInTurn, opened}
+use Rattle.sve_serve.specs.Serial.{AreInTurnOver, AreRecordsInTurn, opened}
 use Rattle.sve_serve.specs.Summary.{summary}
+use Rattle.sve_serve.specs.Texts.{IsTextOf, last_files}
 use Rattle.sve_script.specs.Made.{made_session}
+use Rattle.sve_lint.specs.Rules.{RuleState}
 use Rattle.sve_report.specs.Lines.{ended}
-use Rattle.sve_report.specs.Reports.{report}
 use Rattle.sve_words.specs.declared.request.Options.{Options}
 use Rattle.sve_words.specs.declared.request.Spoken.TheVariants.{Usage as NoRun}
 use Rattle.sve_words.specs.Words.{spoken}
@@ -24,7 +25,7 @@ abbrev pub max_session : ℕ
 max_session = 16777216
 
 abbrev pub usage_line : List ℕ
-usage_line = ended (codes "usage: svserve run [--budget N] [--serial] | svserve make N")
+usage_line = ended (codes "usage: svserve run [--budget N] [--serial] [--lint] | svserve make N")
 
 abbrev pub not_json_line : List ℕ
 not_json_line = ended (codes "bad session: not JSON")
@@ -46,16 +47,17 @@ limit_line which number = ended (codes "bad session: limit " ++ word_of which ++
 abbrev pub too_large_line : List ℕ
 too_large_line = ended (codes "bad session: more than 16777216 bytes")
 
--- The bytes are a session, and the text reports a history of it with records that are honest in a run with these options. Where its clients run one after
--- another, it is a report of clients in turn: each command comes at the newest revision, and no ask is cancelled.
-pub record IsReportOf (options : Options) (bytes text : List ℕ) : Type 0 where
+-- The bytes are a session, and the text reports a history of it with records that are honest in a run with these options, and where these say so what the rules
+-- find in its last revision. Where its clients run one after another, history and records are those of clients in turn: each command comes at the newest
+-- revision, and no ask is cancelled.
+pub record IsReportOf (options : Options) (rules : List RuleState) (bytes text : List ℕ) : Type 0 where
   pub script : Script
   pub entries : List Entry
   pub records : List (List Record)
   pub session : IsSession bytes script
   pub honest : Honest options script entries records
-  pub in_turn : AreInTurn options script.clients → IsReportInTurn (run_budget options) script.files script.clients text
-  pub written : text ≡ report entries records
+  pub in_turn : AreInTurn options script.clients → AreInTurnOver (run_budget options) script.files script.clients entries records
+  pub written : IsTextOf options rules (last_files script entries) entries records text
 
 -- The text is the summary of the run of the generated session of n modules: of records that its one client is told, each of whose commands comes at the newest
 -- revision. So `tree` and `diagnostics` tell of the opening files, and `type` of those that the commit leaves.
@@ -80,24 +82,25 @@ IsBad bytes =
     ⊎ ((which : Which) × (number : ℕ) × IsBeyondLimit bytes which number)
 
 -- The output for the bytes of a session that was read to its end in a run with these options, and the status with which the run then ends.
-abbrev pub IsOutputForSession : Options → List ℕ → Status → List ℕ → Type 0
-IsOutputForSession options bytes Done text = IsReportOf options bytes text
-IsOutputForSession options bytes BadSession text = IsRefusalOf bytes text
-IsOutputForSession options bytes Usage text = ⊥
-IsOutputForSession options bytes ReadFault text = ⊥
-IsOutputForSession options bytes WriteFault text = ⊥
-IsOutputForSession options bytes TooLarge text = ⊥
-IsOutputForSession options bytes NoMemory text = ⊥
+abbrev pub IsOutputForSession : Options → List RuleState → List ℕ → Status → List ℕ → Type 0
+IsOutputForSession options rules bytes Done text = IsReportOf options rules bytes text
+IsOutputForSession options rules bytes BadSession text = IsRefusalOf bytes text
+IsOutputForSession options rules bytes Usage text = ⊥
+IsOutputForSession options rules bytes ReadFault text = ⊥
+IsOutputForSession options rules bytes WriteFault text = ⊥
+IsOutputForSession options rules bytes TooLarge text = ⊥
+IsOutputForSession options rules bytes NoMemory text = ⊥
 
--- The output for these words and these bytes of the source, and the status with which the run ends once it is written. A generated session needs no bytes.
-abbrev pub IsOutputFor : List (List ℕ) → List ℕ → Status → List ℕ → Type 0
-IsOutputFor words bytes Done text = ((asked : IsRun words) × (length bytes ≤ max_session) × IsReportOf asked.0 bytes text) ⊎ ((asked : IsMade words) × IsSummaryOf asked.0 text)
-IsOutputFor words bytes Usage text = (spoken words ≡ NoRun) × (text ≡ usage_line)
-IsOutputFor words bytes BadSession text = IsRun words × (length bytes ≤ max_session) × IsRefusalOf bytes text
-IsOutputFor words bytes TooLarge text = IsRun words × (max_session < length bytes) × (text ≡ too_large_line)
-IsOutputFor words bytes ReadFault text = ⊥
-IsOutputFor words bytes WriteFault text = ⊥
-IsOutputFor words bytes NoMemory text = ⊥
+-- The output for these words, these rules and these bytes of the source, and the status with which the run ends once it is written. A generated session needs
+-- neither rules nor bytes.
+abbrev pub IsOutputFor : List (List ℕ) → List RuleState → List ℕ → Status → List ℕ → Type 0
+IsOutputFor words rules bytes Done text = ((asked : IsRun words) × (length bytes ≤ max_session) × IsReportOf asked.0 rules bytes text) ⊎ ((asked : IsMade words) × IsSummaryOf asked.0 text)
+IsOutputFor words rules bytes Usage text = (spoken words ≡ NoRun) × (text ≡ usage_line)
+IsOutputFor words rules bytes BadSession text = IsRun words × (length bytes ≤ max_session) × IsRefusalOf bytes text
+IsOutputFor words rules bytes TooLarge text = IsRun words × (max_session < length bytes) × (text ≡ too_large_line)
+IsOutputFor words rules bytes ReadFault text = ⊥
+IsOutputFor words rules bytes WriteFault text = ⊥
+IsOutputFor words rules bytes NoMemory text = ⊥
 
 -- the statuses of a run whose whole output was written
 abbrev pub WritesItsOutput : Status → Type 0

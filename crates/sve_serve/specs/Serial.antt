@@ -79,9 +79,13 @@ AreRecordsInTurn given h i (commands ∷ clients) [] = ⊥
 abbrev pub opened : FilesValue → Revisions
 opened files = record { entries = []; newest = files }
 
--- the text is a report of clients with these commands, one after another, over these opening files
+-- the entries and the records are those of clients with these commands, one after another, over these opening files
+abbrev pub AreInTurnOver : ℕ → FilesValue → List (List Command) → List Entry → List (List Record) → Type 0
+AreInTurnOver given files clients entries records = AreRecordsInTurn given (opened files) 1 clients records × (entries ≡ (revisions_in_turn (opened files) 1 clients).entries)
+
+-- the text is a report of these
 abbrev pub IsReportInTurn : ℕ → FilesValue → List (List Command) → List ℕ → Type 0
-IsReportInTurn given files clients text = (records : List (List Record)) × AreRecordsInTurn given (opened files) 1 clients records × (text ≡ report (revisions_in_turn (opened files) 1 clients).entries records)
+IsReportInTurn given files clients text = (entries : List Entry) × (records : List (List Record)) × AreInTurnOver given files clients entries records × (text ≡ report entries records)
 
 -- a command is no ask, or its query has one answer at any files
 abbrev pub HasOneAnswer : Command → Type 0

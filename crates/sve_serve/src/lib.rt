@@ -6,6 +6,7 @@ mod running;
 mod serving;
 mod status;
 mod summary;
+mod texts;
 mod transfer;
 
 pub use serving::serve;

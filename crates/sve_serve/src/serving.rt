@@ -4,7 +4,6 @@ ghost use Rattle.sve_history.specs.Histories.{IsOpening};
 ghost use Rattle.sve_report.specs.declared.entry.Entry.{Entry};
 ghost use Rattle.sve_report.specs.declared.record.Record.{Record};
 ghost use Rattle.sve_report.specs.Lines.{ended};
-ghost use Rattle.sve_report.specs.Reports.{report};
 ghost use Rattle.sve_serve.specs.Honest.{Honest};
 ghost use Rattle.sve_io.specs.Faults.{HasRisen};
 ghost use Rattle.sve_io.specs.Moves.{Loses, Gains};
@@ -13,6 +12,7 @@ ghost use Rattle.sve_script.specs.Limits.{AreInLimits};
 ghost use Rattle.sve_script.specs.Session.{IsSession};
 ghost use Rattle.sve_serve.specs.Endings.{Ends, IsMadeOrCutShort, IsWrittenOrCutShort};
 ghost use Rattle.sve_serve.specs.Runs.{max_session, usage_line, too_large_line, AreLeft, IsReportOf, IsRunOver, IsSummaryOf, WritesItsOutput, IsOutputFor, IsOutputForSession, IsBad, word_of, shape_line, limit_line};
+ghost use Rattle.sve_serve.specs.Texts.{IsTextOf, last_files};
 ghost use Rattle.sve_serve.specs.Words.{IsMade, IsRun};
 ghost use Rattle.sve_words.specs.declared.request.Options.{Options as OptionsSaid};
 ghost use Rattle.sve_words.specs.Words.{spoken, IsInLimit};
@@ -20,6 +20,7 @@ ghost use Rattle.sve_words.specs.Words.{spoken, IsInLimit};
 use crate::running::run;
 use crate::status::Status;
 use crate::summary::summary;
+use crate::texts::text_of;
 use crate::transfer::{ReadError, read_session, write_text};
 use itoa::Buffer;
 use std::alloc::{AllocError, Global};
@@ -27,12 +28,12 @@ use std::sync::Wait;
 use std::thread::Threads;
 use sve_bytes::NoMemory;
 use sve_io::{Sink, Source};
-use sve_report::report_text;
+use sve_lint::Rule;
 use sve_runner::{Gate, told_entries};
 use sve_script::{BadSession, Script, Which, made_session, script};
 use sve_words::{Options, Spoken, spoken};
 
-const USAGE_LINE: &[u8] = b"usage: svserve run [--budget N] [--serial] | svserve make N\n";
+const USAGE_LINE: &[u8] = b"usage: svserve run [--budget N] [--serial] [--lint] | svserve make N\n";
 
 const NOT_JSON_LINE: &[u8] = b"bad session: not JSON\n";
 
@@ -52,17 +53,22 @@ struct Reply {
 /// Every thread is joined. In each ask the gate is told when the ask has its snapshot, and when it has its outcome. It
 /// may wait.
 ///
-/// The words are `run` and its options: `--budget N` or `--budget=N`, the budget of asks that give none, in steps of
-/// elaboration, and `--serial`; or they are `make` and a number of modules from 1 to 2,000. It answers `Usage` where they
-/// are others; then, and for `make`, the source is not read. It answers `ReadFault` and `WriteFault` where the source or
-/// the sink failed, `TooLarge` where there are more bytes than a session may have, `BadSession` where they are no
-/// session, and `NoMemory` where memory is wanting. Nothing is written before a `ReadFault` or a `NoMemory`.
+/// With `--lint` the rules are shown each instance of the design that the files of the last revision are, once the clients
+/// have ended, and the report tells what they find; where the instances cost more than the budget of the run it tells that.
+/// The rules are dropped when the call returns, whatever it did.
+///
+/// The words are `run` and its options: `--budget N` or `--budget=N`, the budget of lint and of asks that give none, in
+/// steps of elaboration, `--serial` and `--lint`; or they are `make` and a number of modules from 1 to 2,000. It answers
+/// `Usage` where they are others; then, and for `make`, the source is not read. It answers `ReadFault` and `WriteFault`
+/// where the source or the sink failed, `TooLarge` where there are more bytes than a session may have, `BadSession` where
+/// they are no session, and `NoMemory` where memory is wanting. Nothing is written before a `ReadFault` or a `NoMemory`.
 pub fn serve<R, S, K, G>(
     rt: &R,
     alloc: Global,
     words: &[String],
     source: &mut S,
     sink: &mut K,
+    rules: Vec<Box<dyn Rule>>,
     gate: &G,
 ) -> Status
 where
@@ -71,10 +77,10 @@ where
     K: Sink,
     G: Gate + Sync,
     // The bytes of the source are a session, and the sink gained the report of one legal history and of records that are
-    // honest for it, whatever the schedule of the clients was. Where clients run one after another, each command comes at
-    // the newest revision.
+    // honest for it, whatever the schedule of the clients was, and with `--lint` of what the rules find in the design of
+    // its last revision. Where clients run one after another, each command comes at the newest revision.
     ensures headline { (options : OptionsSaid) → spoken (map string_bytes words.now) ≡ Spoken.Run options → result ≡ Status.Done
-        → (bytes : List ℕ) × (text : List ℕ) × AreLeft (S.left source.old) bytes × IsReportOf options bytes text × Gains (K.held sink.old) (K.held sink.new) text }
+        → (bytes : List ℕ) × (text : List ℕ) × AreLeft (S.left source.old) bytes × IsReportOf options (map (λ rule. state rule) rules.items) bytes text × Gains (K.held sink.old) (K.held sink.new) text }
 
     // The sink gained the summary of the generated session.
     ensures made { (n : ℕ) → spoken (map string_bytes words.now) ≡ Spoken.Make n → result ≡ Status.Done
@@ -83,7 +89,7 @@ where
 
     // Where an output is written whole, words and bytes are those for which it is written, and the sink gained it.
     ensures said { WritesItsOutput result → (bytes : List ℕ) × (text : List ℕ) × AreLeft (S.left source.old) bytes
-        × IsOutputFor (map string_bytes words.now) bytes result text × Gains (K.held sink.old) (K.held sink.new) text }
+        × IsOutputFor (map string_bytes words.now) (map (λ rule. state rule) rules.items) bytes result text × Gains (K.held sink.old) (K.held sink.new) text }
     ensures read_to_end { IsRun (map string_bytes words.now) → (result ≡ Status.Done) ⊎ (result ≡ Status.BadSession) → IfSome (S.left source.new) (λ left. left ≡ []) }
 
     // Words that ask for nothing, or for a generated session, leave the source alone.
@@ -101,7 +107,7 @@ where
 
     // Where the sink failed, it gained a prefix of the output for these words and bytes.
     ensures cut_short { result ≡ Status.WriteFault → (bytes : List ℕ) × (status : Status) × (text : List ℕ) × (count : ℕ)
-        × AreLeft (S.left source.old) bytes × IsOutputFor (map string_bytes words.now) bytes status text
+        × AreLeft (S.left source.old) bytes × IsOutputFor (map string_bytes words.now) (map (λ rule. state rule) rules.items) bytes status text
         × (count ≤ length text) × Gains (K.held sink.old) (K.held sink.new) (take count text) }
 
     // No more than one byte above the limit is read, and that one leads to TooLarge, a fault of the sink or want of memory.
@@ -126,7 +132,7 @@ where
         → ¬ HasRisen (S.faults source.old) (S.faults source.new) → ¬ HasRisen (K.faults sink.old) (K.faults sink.new)
         → (result ≡ Status.TooLarge) ⊎ (result ≡ Status.NoMemory) }
 {
-    served(rt, alloc, words, source, sink, gate)
+    served(rt, alloc, words, source, sink, rules, gate)
 }
 
 /// The same, with one clause that goes by the status.
@@ -136,6 +142,7 @@ fn served<R, S, K, G>(
     words: &[String],
     source: &mut S,
     sink: &mut K,
+    rules: Vec<Box<dyn Rule>>,
     gate: &G,
 ) -> Status
 where
@@ -143,7 +150,7 @@ where
     S: Source,
     K: Sink,
     G: Gate + Sync,
-    ensures { Ends (map string_bytes words.now) (source.new ≡ source.old) (sink.new ≡ sink.old)
+    ensures { Ends (map string_bytes words.now) (map (λ rule. state rule) rules.items) (source.new ≡ source.old) (sink.new ≡ sink.old)
         (record { bytes = S.left source.old; faults = S.faults source.old })
         (record { bytes = S.left source.new; faults = S.faults source.new })
         (record { bytes = K.held sink.old; faults = K.faults sink.old })
@@ -161,7 +168,7 @@ where
         Err(ReadError::Failed) => return Status::ReadFault,
         Err(ReadError::NoMemory) => return Status::NoMemory,
     };
-    match reply_to(rt, alloc, options, bytes, gate) {
+    match reply_to(rt, alloc, options, rules, bytes, gate) {
         Ok(reply) => say(sink, &reply.text, reply.status),
         Err(AllocError) => Status::NoMemory,
     }
@@ -195,6 +202,7 @@ where
     let options = Options {
         budget: None,
         serial: true,
+        lint: false,
     };
     let ran = run(rt, alloc, options, script, gate)?;
     summary(alloc, n, ran.records.items())
@@ -216,19 +224,20 @@ fn reply_to<R, G>(
     rt: &R,
     alloc: Global,
     options: Options,
+    rules: Vec<Box<dyn Rule>>,
     bytes: Vec<u8>,
     gate: &G,
 ) -> Result<Reply, NoMemory>
 where
     R: Threads + Wait + Sync,
     G: Gate + Sync,
-    ensures { IfOk result (λ reply. IsOutputForSession options bytes.items reply.status reply.text.items) }
+    ensures { IfOk result (λ reply. IsOutputForSession options (map (λ rule. state rule) rules.items) bytes.items reply.status reply.text.items) }
 {
     let read = script(alloc, &bytes);
     // The session has its own texts, so its bytes need not stay.
     drop(bytes);
     match read {
-        Ok(script) => report_of(rt, alloc, options, script, gate),
+        Ok(script) => report_of(rt, alloc, options, rules, script, gate),
         Err(BadSession::NotJson) => refusal(Vec::from_slice(alloc, NOT_JSON_LINE)?),
         Err(BadSession::Shape { path }) => {
             refusal_at(alloc, b"bad session: shape at ", path.items())
@@ -243,6 +252,7 @@ fn report_of<R, G>(
     rt: &R,
     alloc: Global,
     options: Options,
+    rules: Vec<Box<dyn Rule>>,
     script: Script,
     gate: &G,
 ) -> Result<Reply, NoMemory>
@@ -252,13 +262,20 @@ where
     requires limits { AreInLimits script.clients }
     requires opening { IsOpening script.files }
     ensures status { IfOk result (λ reply. reply.status ≡ Status.Done) }
-    ensures text { IfOk result (λ reply. (entries : List Entry) × (records : List (List Record)) × Honest options script entries records × (reply.text.items ≡ report entries records)) }
+    ensures text { IfOk result (λ reply. (entries : List Entry) × (records : List (List Record)) × Honest options script entries records × IsTextOf options (map (λ rule. state rule) rules.items) (last_files script entries) entries records reply.text.items) }
 {
     let ran = run(rt, alloc, options, script, gate)?;
     let entries = told_entries(alloc, &ran.history)?;
     Ok(Reply {
         status: Status::Done,
-        text: report_text(alloc, &entries, ran.records.items())?,
+        text: text_of(
+            alloc,
+            options,
+            rules,
+            &ran.history,
+            &entries,
+            ran.records.items(),
+        )?,
     })
 }
 

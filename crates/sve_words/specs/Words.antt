@@ -3,6 +3,7 @@ use Rattle.std.specs.Prelude.{ℕ, ◌≤◌, ◌==◌, ◌&&◌, ◌||◌, Bool
 use Rattle.std.specs.List.{list_any}
 use Rattle.std.specs.Str.Parse.{digits_value}
 use Rattle.clap.specs.Lexer.{long_of}
+use Rattle.sve_words.specs.declared.request.Options.{Options}
 use Rattle.sve_words.specs.declared.request.Spoken.{Spoken}
 use Rattle.sve_words.specs.declared.request.Spoken.TheVariants.{Run, Make, Usage}
 use Rattle.sve_words.specs.declared.digits.TheConstants.{MAX_BUDGET, MAX_MADE}
@@ -17,47 +18,58 @@ number_to most text =
 abbrev pub number_of : List ℕ → Option ℕ
 number_of text = number_to MAX_BUDGET text
 
+-- what options say: the text of the budget, where one was said, whether the clients are to run one after another, and whether lint rules are to see the last
+-- revision
+pub record Choice : Type 0 where
+  pub budget : Option (List ℕ)
+  pub serial : Bool
+  pub lint : Bool
+
+-- no option
+abbrev pub no_choice : Choice
+no_choice = record { budget = None; serial = false; lint = false }
+
 -- what is said by the words so far
 pub data Said : Type 0 where
-  -- the text of the budget, where one was said, and whether the clients are to run one after another
-  said : Option (List ℕ) → Bool → Said
+  said : Choice → Said
   -- `--budget`, whose number is the next word
-  waits : Bool → Said
+  waits : Choice → Said
   wrong : Said
 
 -- `--budget`, or `--budget=` and its number
-abbrev pub after_budget : Option (List ℕ) → Bool → Said
-after_budget None serial = waits serial
-after_budget (Some text) serial = said (Some text) serial
+abbrev pub after_budget : Option (List ℕ) → Choice → Said
+after_budget None choice = waits choice
+after_budget (Some text) choice = said (record choice { budget = Some text })
 
--- `--serial`, which has no value
-abbrev pub after_serial : Option (List ℕ) → Option (List ℕ) → Said
-after_serial None budget = said budget true
-after_serial (Some text) budget = wrong
+-- an option without a value, with which this is what is said
+abbrev pub after_flag : Option (List ℕ) → Choice → Said
+after_flag None choice = said choice
+after_flag (Some text) choice = wrong
 
 -- `--name` or `--name=value`
-abbrev pub after_option : Option (List ℕ) → Bool → List ℕ × Option (List ℕ) → Said
-after_option budget serial option =
-    if bytes_eq (codes "budget") option.0 then after_budget option.1 serial
-    else (if bytes_eq (codes "serial") option.0 then after_serial option.1 budget else wrong)
+abbrev pub after_option : Choice → List ℕ × Option (List ℕ) → Said
+after_option choice option =
+    if bytes_eq (codes "budget") option.0 then after_budget option.1 choice
+    else (if bytes_eq (codes "serial") option.0 then after_flag option.1 (record choice { serial = true })
+    else (if bytes_eq (codes "lint") option.0 then after_flag option.1 (record choice { lint = true }) else wrong))
 
-abbrev pub after_first : Option (List ℕ) → Bool → Option (List ℕ × Option (List ℕ)) → Said
-after_first budget serial None = wrong
-after_first budget serial (Some option) = after_option budget serial option
+abbrev pub after_first : Choice → Option (List ℕ × Option (List ℕ)) → Said
+after_first choice None = wrong
+after_first choice (Some option) = after_option choice option
 
 -- the word behind `--budget`; an option is no number
-abbrev pub after_second : Bool → List ℕ → Option (List ℕ × Option (List ℕ)) → Said
-after_second serial word None = said (Some word) serial
-after_second serial word (Some option) = wrong
+abbrev pub after_second : Choice → List ℕ → Option (List ℕ × Option (List ℕ)) → Said
+after_second choice word None = said (record choice { budget = Some word })
+after_second choice word (Some option) = wrong
 
 -- what is said with one word more
 abbrev pub after_word : Said → List ℕ → Said
-after_word (said budget serial) word = after_first budget serial (long_of word)
-after_word (waits serial) word = after_second serial word (long_of word)
+after_word (said choice) word = after_first choice (long_of word)
+after_word (waits choice) word = after_second choice word (long_of word)
 after_word wrong word = wrong
 
 abbrev pub said_by : List (List ℕ) → Said
-said_by words = fold after_word (said None false) words
+said_by words = fold after_word (said no_choice) words
 
 -- one hyphen with something else behind it
 abbrev pub is_short : List ℕ → Bool
@@ -77,27 +89,30 @@ says plain valued word = bytes_eq word plain || bytes_eq valued (take (length va
 abbrev pub is_said_twice : List ℕ → List ℕ → List (List ℕ) → Bool
 is_said_twice plain valued words = nat_lt 1 (count_by (says plain valued) words)
 
-abbrev pub run_with : Option ℕ → Bool → Spoken
-run_with budget serial = Run (record { budget = budget; serial = serial })
+-- a run with these options, and with this budget, where the text writes one
+abbrev pub with_number : Option ℕ → Options → Spoken
+with_number None options = Usage
+with_number (Some n) options = Run (record options { budget = Some n })
 
-abbrev pub with_number : Option ℕ → Bool → Spoken
-with_number None serial = Usage
-with_number (Some n) serial = run_with (Some n) serial
+abbrev pub with_budget : Option (List ℕ) → Options → Spoken
+with_budget None options = Run options
+with_budget (Some text) options = with_number (number_of text) options
 
-abbrev pub with_budget : Option (List ℕ) → Bool → Spoken
-with_budget None serial = run_with None serial
-with_budget (Some text) serial = with_number (number_of text) serial
+-- a run as options say it
+abbrev pub run_as : Choice → Spoken
+run_as choice = with_budget choice.budget (record { budget = None; serial = choice.serial; lint = choice.lint })
 
 -- what is asked for, where this is all that is said
 abbrev pub asked : Said → Spoken
-asked (said budget serial) = with_budget budget serial
-asked (waits serial) = Usage
+asked (said choice) = run_as choice
+asked (waits choice) = Usage
 asked wrong = Usage
 
--- the words behind `run`: `--budget N` or `--budget=N`, and `--serial`, in any order and each at most once
+-- the words behind `run`: `--budget N` or `--budget=N`, `--serial` and `--lint`, in any order and each at most once
 abbrev pub options : List (List ℕ) → Spoken
 options words =
-    if list_any is_foreign words || is_said_twice (codes "--budget") (codes "--budget=") words || is_said_twice (codes "--serial") (codes "--serial=") words then Usage
+    if list_any is_foreign words || is_said_twice (codes "--budget") (codes "--budget=") words || is_said_twice (codes "--serial") (codes "--serial=") words
+    || is_said_twice (codes "--lint") (codes "--lint=") words then Usage
     else asked (said_by words)
 
 abbrev pub made_of : Option ℕ → Spoken

@@ -1,8 +1,8 @@
 //! What the words ask for, and the words behind `run`.
 ghost use Rattle.std.specs.Prelude.{◌≡◌, false, map, string_bytes, option_map, IfOk};
 ghost use Rattle.std.specs.List.{list_any};
-ghost use Rattle.clap.specs.Words.{app_of};
-ghost use Rattle.sve_words.specs.Command.{options_app};
+ghost use Rattle.clap.specs.Words.{app_of, rule_of};
+ghost use Rattle.sve_words.specs.Command.{flag_rule, options_app};
 ghost use Rattle.sve_words.specs.Words.{with_budget, asked, said_by, is_short, is_foreign, says, is_said_twice, options, generated, spoken, IsInLimit};
 
 use crate::digits::{MAX_BUDGET, MAX_MADE, number};
@@ -11,8 +11,8 @@ use clap::error::ErrorKind;
 use clap::{Arg, ArgAction, Command};
 use std::alloc::{AllocError, Global};
 
-/// What the words ask for: `run`, and behind it `--budget N` or `--budget=N` and `--serial`, in any order and each at
-/// most once; or `make N` with a number of modules; or nothing. The program's name is none of the words.
+/// What the words ask for: `run`, and behind it `--budget N` or `--budget=N`, `--serial` and `--lint`, in any order and each
+/// at most once; or `make N` with a number of modules; or nothing. The program's name is none of the words.
 ///
 /// # Errors
 /// Only for want of memory.
@@ -56,6 +56,7 @@ fn options(alloc: Global, words: &[String]) -> Result<Spoken, AllocError>
     if has_foreign(words)
         || is_said_twice("--budget", "--budget=", words)
         || is_said_twice("--serial", "--serial=", words)
+        || is_said_twice("--lint", "--lint=", words)
     {
         return Ok(Spoken::Usage);
     }
@@ -70,7 +71,14 @@ fn read(alloc: Global, words: &[String]) -> Result<Spoken, AllocError>
 {
     let command = command(alloc)?;
     match command.try_get_matches_from(words) {
-        Ok(matches) => Ok(with_budget(matches.get_str("budget"), matches.get_flag("serial"))),
+        Ok(matches) => {
+            let flags = Options {
+                budget: None,
+                serial: matches.get_flag("serial"),
+                lint: matches.get_flag("lint"),
+            };
+            Ok(with_budget(matches.get_str("budget"), flags))
+        }
         Err(error) => match error.kind() {
             ErrorKind::OutOfMemory => Err(AllocError),
             _ => Ok(Spoken::Usage),
@@ -78,24 +86,29 @@ fn read(alloc: Global, words: &[String]) -> Result<Spoken, AllocError>
     }
 }
 
-/// The run with this budget, where one is said and is a number of steps.
-fn with_budget(budget: Option<&str>, serial: bool) -> Spoken
-    ensures said { result ≡ with_budget (option_map (λ text. text.now) budget.entry) serial }
+/// The run with these options, and with this budget where one is said and is a number of steps.
+fn with_budget(budget: Option<&str>, options: Options) -> Spoken
+    ensures said { result ≡ with_budget (option_map (λ text. text.now) budget.entry) options }
     ensures in_limit { IsInLimit result }
 {
     let Some(text) = budget else {
-        return Spoken::Run(Options {
-            budget: None,
-            serial,
-        });
+        return Spoken::Run(options);
     };
     match number(text, MAX_BUDGET) {
         Some(n) => Spoken::Run(Options {
             budget: Some(n),
-            serial,
+            ..options
         }),
         None => Spoken::Usage,
     }
+}
+
+/// An option without a value.
+fn flag<'a>(alloc: Global, name: &'a str) -> Arg<'a>
+    ensures rule { rule_of result ≡ flag_rule name.now }
+    ensures local { result.global ≡ false }
+{
+    Arg::new(alloc, name).long(name).action(ArgAction::SetTrue)
 }
 
 /// The simple command of the options. A use of an option undoes an earlier one, since it is said at most once.
@@ -105,14 +118,14 @@ fn command<'a>(alloc: Global) -> Result<Command<'a>, AllocError>
     let budget = Arg::new(alloc, "budget")
         .long("budget")
         .action(ArgAction::Set);
-    let serial = Arg::new(alloc, "serial")
-        .long("serial")
-        .action(ArgAction::SetTrue);
     let command = Command::new(alloc, "run")
         .no_binary_name(true)
         .disable_help_flag(true)
         .args_override_self(true);
-    command.arg(budget)?.arg(serial)
+    command
+        .arg(budget)?
+        .arg(flag(alloc, "serial"))?
+        .arg(flag(alloc, "lint"))
 }
 
 fn has_foreign(words: &[String]) -> bool

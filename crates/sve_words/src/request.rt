@@ -5,6 +5,8 @@ pub struct Options {
     pub budget: Option<u32>,
     /// Whether the clients run one after another.
     pub serial: bool,
+    /// Whether lint rules are shown the design of the last revision.
+    pub lint: bool,
 }
 
 /// What the words of the command line ask for.

@@ -1,9 +1,9 @@
 use denote.Param.Send.{sendable}
-use Rattle.std.proofs.Common.{List, sym, subst}
+use Rattle.std.proofs.Common.{◌≡◌, List, sym, subst}
 use Rattle.sve_command.specs.declared.commands.Command.{Command}
 use Rattle.sve_crossing.proofs.Crossing.{value_send, value_sync}
 use Rattle.sve_runner.specs.declared.terms.Terms.{Terms}
-use Rattle.sve_runner.specs.Honest.{told_entries, files_of, AreHonest}
+use Rattle.sve_runner.specs.Honest.{history_by, told_entries, files_of, AreHonest}
 use Rattle.sve_runner.specs.Told.{AreFew}
 use Rattle.sve_serve.specs.Answers.{IsAnswerAt}
 use Rattle.sve_serve.proofs.Answered.{are_honest_for}
@@ -25,6 +25,9 @@ returns g c =
     let law = c.answers_are_those_of_the_files.ensures in
     let files = c.args.script.files in
     let ran = c.in_ok-ran.ran in
-    let told = are_honest_for _ IsAnswerAt c.terms_of.result files c.items.result.now (told_entries ran.history) ran.records (λ r query budget answer is. law (files_of IsAnswerAt c.terms_of.result files c.items.result.now (told_entries ran.history) r) query budget answer is) c.in_ok-ran.ensures in
-    subst (λ (terms : Terms). AreHonest IsAnswerAt terms files c.args.script.clients (told_entries ran.history) ran.records) c.terms_of.ensures
-    (subst (λ (clients : List (List Command)). AreHonest IsAnswerAt c.terms_of.result files clients (told_entries ran.history) ran.records) c.items.ensures told)
+    let told = are_honest_for _ IsAnswerAt c.terms_of.result files c.items.result.now (told_entries ran.history) ran.records (λ r query budget answer is. law (files_of IsAnswerAt c.terms_of.result files c.items.result.now (told_entries ran.history) r) query budget answer is) c.in_ok-ran.ensures.honest in
+    record {
+      history = subst (λ (clients : List (List Command)). ran.history ≡ history_by files clients (told_entries ran.history)) c.items.ensures c.in_ok-ran.ensures.history;
+      honest = subst (λ (terms : Terms). AreHonest IsAnswerAt terms files c.args.script.clients (told_entries ran.history) ran.records) c.terms_of.ensures
+          (subst (λ (clients : List (List Command)). AreHonest IsAnswerAt c.terms_of.result files clients (told_entries ran.history) ran.records) c.items.ensures told);
+    }

@@ -10,4 +10,4 @@ report_of-requires-clause-opening g c κs within =
 pub returns-in-Ok : goal.returns-in-Ok
 returns-in-Ok g c =
     let session : IsSession c.args.bytes.items c.in-Ok.script = subst (λ (b : List ℕ). IsSession b c.in-Ok.script) c.deref.ensures.value c.in-Ok.ensures.session in
-    reported_output c.args.options c.args.bytes.items c.in-Ok.script c.report_of.result session c.report_of.ensures.status c.report_of.ensures.text
+    reported_output c.args.options _ c.args.bytes.items c.in-Ok.script c.report_of.result session c.report_of.ensures.status c.report_of.ensures.text

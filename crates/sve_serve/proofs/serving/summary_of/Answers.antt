@@ -11,4 +11,4 @@ run-requires-clause-opening g c κs within = made_opening c.args.n c.in_ok-scrip
 pub returns : goal.returns
 returns g c =
     let ran = c.in_ok-ran.ran in
-    IfOk-weaker c.summary.result _ _ (λ text is. summed_up c.args.n c.in_ok-script.script _ ran.records _ c.in_ok-script.ensures.session c.in_ok-ran.ensures (is ∙ ap (λ (records : List (List Record)). summary c.args.n records) c.items.ensures)) c.summary.ensures
+    IfOk-weaker c.summary.result _ _ (λ text is. summed_up c.args.n c.in_ok-script.script _ ran.records _ c.in_ok-script.ensures.session c.in_ok-ran.ensures.honest (is ∙ ap (λ (records : List (List Record)). summary c.args.n records) c.items.ensures)) c.summary.ensures
