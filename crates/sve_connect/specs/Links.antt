@@ -149,8 +149,8 @@ module _ (s : Seen) where
   abbrev pub by_name : List Port → List PortName → Linking → ℕ → ℕ → Connecting → Linking
   by_name ports names l name place means = to_port (free_port ports l (place_of names (s.name name))) l (place_of names (s.name name)) (s.name name) name place means
 
-  abbrev pub named : List Port → List PortName → Linking → ℕ → ℕ → ℕ → Connecting → Linking
-  named ports names l dot name place means = if in_form l.form false then by_name ports names (with_form l false) name place means else refused l dot E08 None means
+  abbrev pub named : List Port → List PortName → Linking → ℕ → ℕ → Connecting → Linking
+  named ports names l name place means = if in_form l.form false then by_name ports names (with_form l false) name place means else refused l name E08 None means
 
   -- ---- by order: the first in excess is said
 
@@ -173,8 +173,8 @@ module _ (s : Seen) where
 
   unfoldable pub with_argument : List Port → List PortName → Linking → ℕ → ℕ → Arg → Linking
   with_argument ports names l place behind (is_arg.Wildcard token) = starred l (record { token = token; place = place })
-  with_argument ports names l place behind (is_arg.Implicit dot name) = named ports names l dot name place (own_name name)
-  with_argument ports names l place behind (is_arg.Unconnected dot name opening closing) = named ports names l dot name place nothing
-  with_argument ports names l place behind (is_arg.Named' dot name opening _ value closing) = named ports names l dot name place (expression value)
+  with_argument ports names l place behind (is_arg.Implicit dot name) = named ports names l name place (own_name name)
+  with_argument ports names l place behind (is_arg.Unconnected dot name opening closing) = named ports names l name place nothing
+  with_argument ports names l place behind (is_arg.Named' dot name opening _ value closing) = named ports names l name place (expression value)
   with_argument ports names l place behind (is_arg.Ordered' _ value) = ordered ports l (token_of value) place (expression value)
   with_argument ports names l place behind is_arg.Empty = ordered ports l behind place nothing

@@ -165,18 +165,17 @@ fn named<A: Around>(
     ports: &[Port],
     names: &Table<PortName>,
     linking: Linking,
-    dot: u32,
     name: u32,
     place: usize,
     means: Means<'_>,
 ) -> Result<Linking, NoMemory>
-    ensures { IfOk result (λ l. l ≡ named (A.seen around.now) ports.now names.now linking dot name place (means_of means.entry)) }
+    ensures { IfOk result (λ l. l ≡ named (A.seen around.now) ports.now names.now linking name place (means_of means.entry)) }
 {
     if in_form(linking.form, false) {
         let linking = with_form(linking, false);
         by_name(around, ports, names, linking, name, place, means)
     } else {
-        refused(around, linking, dot, Code::E08, None, means)
+        refused(around, linking, name, Code::E08, None, means)
     }
 }
 
@@ -256,22 +255,17 @@ pub(crate) fn with_argument<A: Around>(
                 place,
             },
         ),
-        Arg::Implicit { dot, name } => {
+        Arg::Implicit { name, .. } => {
             let means = Means::OwnName(*name);
-            named(around, ports, names, linking, *dot, *name, place, means)
+            named(around, ports, names, linking, *name, place, means)
         }
-        Arg::Unconnected { dot, name, .. } => {
+        Arg::Unconnected { name, .. } => {
             let means = Means::Nothing;
-            named(around, ports, names, linking, *dot, *name, place, means)
+            named(around, ports, names, linking, *name, place, means)
         }
-        Arg::Named {
-            dot,
-            name,
-            value,
-            ..
-        } => {
+        Arg::Named { name, value, .. } => {
             let means = Means::Expression(value);
-            named(around, ports, names, linking, *dot, *name, place, means)
+            named(around, ports, names, linking, *name, place, means)
         }
         Arg::Ordered { value } => {
             let token = token_of(value);

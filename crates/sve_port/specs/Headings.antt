@@ -27,20 +27,20 @@ use Rattle.sve_port.specs.declared.interfaces.DesignKind.TheVariants.{Module, In
 pub data Saying : Type 0 where
   nothing : Saying
   face : ℕ → Option ℕ → Saying
-  wrong : ℕ → Code → Saying
+  wrong : ℕ → ℕ → Code → Saying
   data_of : DeclaredType → Saying
 
 abbrev pub meaning_of_heading : Heading → Saying
 meaning_of_heading is_heading.Nothing = nothing
 meaning_of_heading (is_heading.Face interface modport) = face interface modport
-meaning_of_heading (is_heading.Wrong token code) = wrong token code
+meaning_of_heading (is_heading.Wrong interface modport code) = wrong interface modport code
 meaning_of_heading (is_heading.Data t) = data_of t.now
 
--- with a modport: a name that is not that of an interface is said
+-- with a modport: a name that is not that of an interface is said, and the port is an interface port all the same
 abbrev pub face_heading : ℕ → ℕ → Option DesignKind → Saying
 face_heading interface modport (Some Interface) = face interface (Some modport)
-face_heading interface modport (Some Module) = wrong interface N11
-face_heading interface modport None = wrong interface N09
+face_heading interface modport (Some Module) = wrong interface modport N11
+face_heading interface modport None = wrong interface modport N09
 
 -- a name by itself
 abbrev pub lone_if : Bool → ScopedName → Option ScopedName

@@ -16,7 +16,7 @@ use Rattle.sve_types.specs.DataType.{DataType, Form, atom, vector, enumeration, 
 use Rattle.sve_fault.specs.Faults.{argument_of}
 use Rattle.sve_scope.specs.declared.what.FaceName.{FaceName}
 use Rattle.sve_facts.specs.declared.facts.Port.{Port as PortFact}
-use Rattle.sve_type_rule.specs.Outcomes.{Outcome, scalar}
+use Rattle.sve_type_rule.specs.Outcomes.{Outcome}
 use Rattle.sve_env.specs.Told.{Told}
 use Rattle.sve_env.specs.Nodes.{dimension_count}
 use Rattle.sve_type_of.specs.Nodes.{declared_nodes}
@@ -67,13 +67,13 @@ typed_manner m before direction kind t = typed_by m kind (direction_or direction
 abbrev pub mannered : Told → Manner → Option (Mark Dir) → Option PortKind → Saying → InFront
 mannered m before direction kind nothing = record { manner = before; said = [] }
 mannered m before direction kind (face interface modport) = record { manner = face_manner m interface modport; said = [] }
-mannered m before direction kind (wrong token code) = record { manner = first_manner; said = note_about m token code ∷ [] }
+mannered m before direction kind (wrong interface modport code) = record { manner = face_manner m interface (Some modport); said = note_about m interface code ∷ [] }
 mannered m before direction kind (data_of t) = typed_manner m before.direction direction kind t
 
 abbrev pub heading_nodes : Told → Saying → ℕ
 heading_nodes m nothing = 0
 heading_nodes m (face interface modport) = 0
-heading_nodes m (wrong token code) = 0
+heading_nodes m (wrong interface modport code) = 0
 heading_nodes m (data_of t) = declared_nodes m t
 
 -- ---- behind it
@@ -96,7 +96,7 @@ form_is_text text = true
 abbrev pub is_text : DataType → Bool
 is_text t = form_is_text (form_of_type t)
 
--- no port is a string, and no interface port has dimensions (own)
+-- No port is a string, and no interface port has dimensions (own): this is said, and the type stays.
 abbrev pub is_out_by : Option FaceName → DataType → Bool → Bool
 is_out_by (Some interface) t plain = not plain
 is_out_by None t plain = is_text t
@@ -112,7 +112,7 @@ shape_of m t dimensions = if is_empty dimensions then (record { ty = t; said = [
 
 abbrev pub shaped_unless : Bool → Told → ℕ → Behind → Behind
 shaped_unless false m name b = b
-shaped_unless true m name b = record { ty = scalar; said = b.said ++ note_about m name E06 ∷ [] }
+shaped_unless true m name b = record { ty = b.ty; said = b.said ++ note_about m name E06 ∷ [] }
 
 abbrev pub shaped : Told → Manner → Declarator → Behind
 shaped m manner declarator = shaped_unless (is_out manner (is_empty declarator.dimensions.items)) m declarator.name (shape_of m manner.ty declarator.dimensions.items)

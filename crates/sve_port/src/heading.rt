@@ -18,8 +18,8 @@ pub(crate) enum Heading<'a> {
     Nothing,
     /// An interface, and perhaps a modport, by their tokens.
     Face(u32, Option<u32>),
-    /// At this token the name of no interface.
-    Wrong(u32, Code),
+    /// A name that is that of no interface, and a modport, by their tokens, and what is said of the name.
+    Wrong(u32, u32, Code),
     /// A direction, a kind or a type.
     Data(&'a DeclaredType),
 }
@@ -39,14 +39,15 @@ fn kind_at<E: Env, I: Interfaces>(
     }
 }
 
-/// An interface with a modport: another name there is said (N09), and that of a module (N11).
+/// An interface with a modport: another name there is said (N09), and that of a module (N11). The port is an interface port all the
+/// same.
 fn face_heading<'a>(interface: u32, modport: u32, kind: Option<DesignKind>) -> Heading<'a>
     ensures { meaning_of_heading result ≡ face_heading interface modport kind }
 {
     match kind {
         Some(DesignKind::Interface) => Heading::Face(interface, Some(modport)),
-        Some(DesignKind::Module) => Heading::Wrong(interface, Code::N11),
-        None => Heading::Wrong(interface, Code::N09),
+        Some(DesignKind::Module) => Heading::Wrong(interface, modport, Code::N11),
+        None => Heading::Wrong(interface, modport, Code::N09),
     }
 }
 

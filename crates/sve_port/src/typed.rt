@@ -2,14 +2,13 @@
 ghost use Rattle.std.specs.Prelude.{◌≡◌, [], ◌∷◌, ◌++◌, IfOk};
 ghost use Rattle.sve_diag.specs.declared.code.Code.TheVariants.{E06};
 ghost use Rattle.sve_fault.specs.Counts.{Counts, IsFuel};
-ghost use Rattle.sve_type_rule.specs.Outcomes.{scalar};
 ghost use Rattle.sve_env.specs.Nodes.{dimension_count};
 ghost use Rattle.sve_type_of.specs.Nodes.{declared_nodes};
 ghost use Rattle.sve_port.specs.Headings.{meaning_of_heading};
 ghost use Rattle.sve_port.specs.Ports.{IsMannered, IsShaped, face_manner, heading_nodes, is_out, is_text, mannered, modport_name, note_about, shape_of, shaped, typed_manner};
 
 use crate::heading::Heading;
-use crate::manner::{Manner, direction_or, first_manner, is_net, is_typed, manner_of_face, scalar};
+use crate::manner::{Manner, direction_or, first_manner, is_net, is_typed, manner_of_face};
 use std::alloc::Global;
 use sve_bytes::{List, Name, NoMemory};
 use sve_diag::{Code, Note};
@@ -149,9 +148,9 @@ pub(crate) fn manner_after<E: Env>(
             manner: face_manner(alloc, env, interface, modport)?,
             notes: no_notes(alloc),
         }),
-        Heading::Wrong(token, code) => Ok(Mannered {
-            manner: first_manner(alloc)?,
-            notes: with_note(no_notes(alloc), note_about(alloc, env, token, code)?)?,
+        Heading::Wrong(interface, modport, code) => Ok(Mannered {
+            manner: face_manner(alloc, env, interface, Some(modport))?,
+            notes: with_note(no_notes(alloc), note_about(alloc, env, interface, code)?)?,
         }),
         Heading::Data(data_type) => typed_manner(alloc, env, before, port, data_type, fuel),
     }
@@ -206,24 +205,20 @@ fn shape_of<E: Env>(
     })
 }
 
-/// A port that may not be of its type: this is said at its name (E06), and the port is of one bit.
+/// These notes, and that a port may not be of its type, which is said at its name (E06).
 fn out_of_place<E: Env>(
     alloc: Global,
     env: &E,
     name: u32,
     notes: List<Note>,
-) -> Result<Shaped, NoMemory>
-    ensures ty { IfOk result (λ s. s.ty ≡ scalar) }
-    ensures notes { IfOk result (λ s. s.notes ≡ notes ++ note_about (E.told env.now) name E06 ∷ []) }
+) -> Result<List<Note>, NoMemory>
+    ensures { IfOk result (λ l. l ≡ notes ++ note_about (E.told env.now) name E06 ∷ []) }
 {
     let note = note_about(alloc, env, name, Code::E06)?;
-    Ok(Shaped {
-        ty: SharedType::of(alloc, scalar(alloc))?,
-        notes: with_note(notes, note)?,
-    })
+    with_note(notes, note)
 }
 
-/// The type of a port (IEEE 1800-2017, 23.2.2). One that may not be is said at the name (E06), and the port is of one bit.
+/// The type of a port (IEEE 1800-2017, 23.2.2). One that no port may be of is said at the name (E06), and stays.
 pub(crate) fn shape<E: Env>(
     alloc: Global,
     env: &E,
@@ -236,8 +231,11 @@ pub(crate) fn shape<E: Env>(
     ensures count { Counts result fuel.old fuel.new (dimension_count (E.told env.now) declarator.now.dimensions.items) }
 {
     let Shaped { ty, notes } = shape_of(alloc, env, &manner.ty, declarator, fuel)?;
-    if is_out(manner, declarator.dimensions.is_empty()) {
-        return Ok(out_of_place(alloc, env, declarator.name, notes)?);
+    if !is_out(manner, declarator.dimensions.is_empty()) {
+        return Ok(Shaped { ty, notes });
     }
-    Ok(Shaped { ty, notes })
+    Ok(Shaped {
+        ty,
+        notes: out_of_place(alloc, env, declarator.name, notes)?,
+    })
 }
