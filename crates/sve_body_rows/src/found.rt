@@ -8,7 +8,7 @@ use sve_diag::Note;
 use sve_facts::{Body, BodyScope, Child, Facts, ImplicitNet, ParameterValue, Port};
 use sve_row::{add_number, spell, write_line};
 use sve_row_element::value_text;
-use sve_scope::Declared;
+use sve_scope::{Declared, FaceName};
 use sve_spec::Given;
 
 /// A declaration of a scope.
@@ -39,8 +39,21 @@ fn parameter_line(alloc: Global, parameter: &ParameterValue) -> Result<String, N
     Ok(out)
 }
 
-/// A port.
-fn port_line(alloc: Global, port: &Port) -> Result<String, NoMemory> {
+/// An interface port.
+fn face_line(alloc: Global, port: &Port, face: &FaceName) -> Result<String, NoMemory> {
+    let mut out = String::from_str(alloc, "  port ")?;
+    spell(&mut out, face.interface.bytes())?;
+    if let Some(modport) = &face.modport {
+        out.push('.')?;
+        spell(&mut out, modport.bytes())?;
+    }
+    out.push(' ')?;
+    spell(&mut out, port.name.bytes())?;
+    Ok(out)
+}
+
+/// A port that is no interface port.
+fn data_line(alloc: Global, port: &Port) -> Result<String, NoMemory> {
     let mut out = String::from_str(alloc, "  port ")?;
     out.push_str(direction_name(port.direction))?;
     out.push(' ')?;
@@ -48,6 +61,14 @@ fn port_line(alloc: Global, port: &Port) -> Result<String, NoMemory> {
     out.push_str(if port.net { " net " } else { " variable " })?;
     add_shared(alloc, &mut out, &port.ty)?;
     Ok(out)
+}
+
+/// A port.
+fn port_line(alloc: Global, port: &Port) -> Result<String, NoMemory> {
+    match &port.face {
+        Some(face) => face_line(alloc, port, face),
+        None => data_line(alloc, port),
+    }
 }
 
 /// Adds what parameters are given.

@@ -13,11 +13,13 @@ use Rattle.sve_known.specs.Naming.{name_at}
 use Rattle.sve_contents.specs.declared.contents.Contents.{Contents}
 use Rattle.sve_used.specs.Used.{name_used}
 use Rattle.sve_nested.specs.Blocks.{path_to}
+use Rattle.sve_scope.specs.declared.declared.Declared.{Declared}
+use Rattle.sve_instance.specs.Around.{seen_in}
 use Rattle.sve_instance.specs.declared.connections.Connections.{Connections}
 use Rattle.sve_instance.specs.Connections.{with_connections}
 use Rattle.sve_instance.specs.Unknown.{with_unknown}
 use Rattle.sve_child.specs.declared.children.Placed.{Placed}
-use Rattle.sve_child.specs.Seen.{seen_at}
+use Rattle.sve_child.specs.Connecting.{names_connected}
 
 -- the child of this name, in the scope of a path
 abbrev pub child_named : Path → Option (List ℕ) → Specialization → ℕ → List (List ℕ) → Option Child
@@ -30,14 +32,14 @@ placed_as ws path spec token left = record { contents = left.contents; child = c
 
 -- where these packages are known
 module _ (packages : List Known) (ws : List Word) where
-  -- the names in its connections are used
+  -- an instance of a specialization, whose ports are these, where these instances are those of interfaces
+  abbrev pub with_child : (Declared → Option (List ℕ)) → Contents → Path → Specialization → List Port → Instance → Placed
+  with_child interfaces c path spec ports i = placed_as ws path spec i.name (with_connections (seen_in packages ws interfaces i.name) ws (names_connected packages ws interfaces c ports i) ports i)
+
+  -- the names in the connections of an instance without a specialization are used
   abbrev pub connections_used : Contents → Instance → Contents
   connections_used c i = fold (name_used packages ws) c (uses_of_arguments i.connections)
 
-  -- an instance of a specialization, whose ports are these
-  abbrev pub with_child : Contents → Path → Specialization → List Port → Instance → Placed
-  with_child c path spec ports i = placed_as ws path spec i.name (with_connections (seen_at packages ws i.name) ws (connections_used c i) ports i)
-
-  -- an instance without a specialization is no child
-  abbrev pub with_no_child : Contents → Instance → Contents
-  with_no_child c i = with_unknown (seen_at packages ws i.name) ws (connections_used c i) i
+  -- it is no child
+  abbrev pub with_no_child : (Declared → Option (List ℕ)) → Contents → Instance → Contents
+  with_no_child interfaces c i = with_unknown (seen_in packages ws interfaces i.name) ws (connections_used c i) i

@@ -1,5 +1,5 @@
-pub mod Interfaces
-pub mod Seen
 pub mod Definitions
 pub mod Nets
+pub mod Connecting
+pub mod Naming
 pub mod Children

@@ -6,6 +6,7 @@ use Rattle.sve_bytes.specs.declared.path.Path.{Path}
 use Rattle.sve_tree.specs.declared.item.Instance.{Instance}
 use Rattle.sve_tree.specs.declared.token_word.Word.{Word}
 use Rattle.sve_type_rule.specs.Outcomes.{scalar}
+use Rattle.sve_scope.specs.declared.declared.Declared.{Declared}
 use Rattle.sve_scope.specs.declared.what.What.TheVariants as is_what
 use Rattle.sve_scope.specs.Lookup.{Meaning, local, imported, two, nothing, looked_up}
 use Rattle.sve_facts.specs.declared.facts.Port.{Port}
@@ -13,11 +14,10 @@ use Rattle.sve_known.specs.Packages.{Known}
 use Rattle.sve_known.specs.Naming.{name_at}
 use Rattle.sve_contents.specs.declared.contents.Contents.{Contents}
 use Rattle.sve_scoped.specs.Said.{declared_at}
-use Rattle.sve_instance.specs.Around.{token_of_net}
+use Rattle.sve_instance.specs.Around.{seen_in, token_of_net}
 use Rattle.sve_instance.specs.Connections.{connected_in}
 use Rattle.sve_instance.specs.Unknown.{instance_nets}
 use Rattle.sve_child.specs.declared.nets.Implied.{Implied}
-use Rattle.sve_child.specs.Seen.{seen_at}
 
 -- ---- whether a name stands for something where it is used; of a token without a name nothing is to be declared
 
@@ -56,13 +56,14 @@ net_named ws c path token (Some n) = record {
 abbrev pub implied_net : List Word → Contents → Path → ℕ → NetType → Implied
 implied_net ws c path token net = if makes_nets net then net_named ws c path token (name_at ws token) else no_net c
 
--- ---- the tokens of the names in the connections of an instance that may declare nets, where these packages are known
+-- ---- the tokens of the names in the connections of an instance that may declare nets, where these packages are known and these
+-- instances are those of interfaces
 
-module _ (packages : List Known) (ws : List Word) where
+module _ (packages : List Known) (ws : List Word) (interfaces : Declared → Option (List ℕ)) where
   -- of one whose specialization has these ports
   abbrev pub net_tokens : Contents → List Port → Instance → List ℕ
-  net_tokens c ports i = map token_of_net (connected_in (seen_at packages ws i.name c) ports i).nets
+  net_tokens c ports i = map token_of_net (connected_in (seen_in packages ws interfaces i.name c) ports i).nets
 
   -- of one without a specialization
   abbrev pub net_tokens_of_none : Contents → Instance → List ℕ
-  net_tokens_of_none c i = map token_of_net (instance_nets (seen_at packages ws i.name c) i)
+  net_tokens_of_none c i = map token_of_net (instance_nets (seen_in packages ws interfaces i.name c) i)

@@ -3,8 +3,9 @@ ghost use Rattle.std.specs.Prelude.{◌≡◌, IfOk, None, option_map};
 ghost use Rattle.sve_nested.specs.Blocks.{path_to};
 ghost use Rattle.sve_child.specs.Children.{child_named, placed_as, with_child, with_no_child};
 
-use crate::interfaces::NoInterfaces;
+use crate::connecting::names_connected;
 use std::alloc::Global;
+use sve_around::Instances;
 use sve_bytes::{List, Name, NoMemory, Path, Step};
 use sve_contents::Contents;
 use sve_facts::{Child, Port};
@@ -89,19 +90,20 @@ fn placed_as(
 ///
 /// # Errors
 /// For want of memory alone.
-pub fn with_child(
+pub fn with_child<I: Instances>(
     alloc: Global,
     text: Text<'_>,
     contents: Contents,
+    instances: &I,
     path: &Path,
     spec: Spec,
     ports: &[Port],
     instance: &Instance,
 ) -> Result<Placed, NoMemory>
-    ensures { IfOk result (λ p. p ≡ with_child text.entry.packages.now text.entry.words.now contents path.now spec ports.now instance.now) }
+    ensures { IfOk result (λ p. p ≡ with_child text.entry.packages.now text.entry.words.now (I.interfaces instances.now) contents path.now spec ports.now instance.now) }
 {
-    let contents = arguments_used(alloc, text, contents, &instance.connections)?;
-    let left = with_connections(alloc, text, contents, &NoInterfaces, ports, instance)?;
+    let contents = names_connected(alloc, text, contents, instances, ports, instance)?;
+    let left = with_connections(alloc, text, contents, instances, ports, instance)?;
     placed_as(alloc, text.words, path, spec, instance.name, left)
 }
 
@@ -110,14 +112,15 @@ pub fn with_child(
 ///
 /// # Errors
 /// For want of memory alone.
-pub fn with_no_child(
+pub fn with_no_child<I: Instances>(
     alloc: Global,
     text: Text<'_>,
     contents: Contents,
+    instances: &I,
     instance: &Instance,
 ) -> Result<Contents, NoMemory>
-    ensures { IfOk result (λ c. c ≡ with_no_child text.entry.packages.now text.entry.words.now contents instance.now) }
+    ensures { IfOk result (λ c. c ≡ with_no_child text.entry.packages.now text.entry.words.now (I.interfaces instances.now) contents instance.now) }
 {
     let contents = arguments_used(alloc, text, contents, &instance.connections)?;
-    with_unknown(alloc, text, contents, &NoInterfaces, instance)
+    with_unknown(alloc, text, contents, instances, instance)
 }

@@ -5,8 +5,8 @@ ghost use Rattle.sve_known.specs.Naming.{name_at};
 ghost use Rattle.sve_type_rule.specs.Outcomes.{scalar};
 ghost use Rattle.sve_child.specs.Nets.{implied_net, is_something, makes_nets, net_named, net_tokens, net_tokens_of_none, no_net, stands_for_something};
 
-use crate::interfaces::NoInterfaces;
 use std::alloc::Global;
+use sve_around::Instances;
 use sve_bytes::{List, Name, NetType, NoMemory, Path};
 use sve_contents::Contents;
 use sve_facts::{ImplicitNet, Port};
@@ -143,29 +143,31 @@ pub fn implied_net(
 ///
 /// # Errors
 /// For want of memory alone.
-pub fn net_tokens(
+pub fn net_tokens<I: Instances>(
     alloc: Global,
     text: Text<'_>,
     contents: &Contents,
+    instances: &I,
     ports: &[Port],
     instance: &Instance,
 ) -> Result<Vec<u32>, NoMemory>
-    ensures { IfOk result (λ tokens. tokens.items ≡ net_tokens text.entry.packages.now text.entry.words.now contents.now ports.now instance.now) }
+    ensures { IfOk result (λ tokens. tokens.items ≡ net_tokens text.entry.packages.now text.entry.words.now (I.interfaces instances.now) contents.now ports.now instance.now) }
 {
-    connection_tokens(alloc, text, contents, &NoInterfaces, ports, instance)
+    connection_tokens(alloc, text, contents, instances, ports, instance)
 }
 
 /// The same tokens of an instance without a specialization.
 ///
 /// # Errors
 /// For want of memory alone.
-pub fn net_tokens_of_none(
+pub fn net_tokens_of_none<I: Instances>(
     alloc: Global,
     text: Text<'_>,
     contents: &Contents,
+    instances: &I,
     instance: &Instance,
 ) -> Result<Vec<u32>, NoMemory>
-    ensures { IfOk result (λ tokens. tokens.items ≡ net_tokens_of_none text.entry.packages.now text.entry.words.now contents.now instance.now) }
+    ensures { IfOk result (λ tokens. tokens.items ≡ net_tokens_of_none text.entry.packages.now text.entry.words.now (I.interfaces instances.now) contents.now instance.now) }
 {
-    unknown_tokens(alloc, text, contents, &NoInterfaces, instance)
+    unknown_tokens(alloc, text, contents, instances, instance)
 }

@@ -1,5 +1,5 @@
 -- What the plan of a header can ask: nothing of ports.
-use Rattle.std.proofs.Common.{ℕ, Bool, true, false, cond, List, [], ◌∷◌, Option, Some, None}
+use Rattle.std.proofs.Common.{ℕ, Bool, true, false, cond, List, [], ◌∷◌, ◌++◌, Option, Some, None}
 use Rattle.std.specs.List.{range_with_len}
 use Rattle.sve_table.specs.Tables.{item_of}
 use Rattle.sve_tree.specs.declared.element.Element.{Element}
@@ -15,6 +15,7 @@ use Rattle.sve_spec.specs.declared.given.Given.{Given}
 use Rattle.sve_facts.specs.Facts.{no_facts}
 use Rattle.sve_imports.specs.Naming.{own_words, packages_in, unit_words}
 use Rattle.sve_known.specs.Packages.{Known}
+use Rattle.sve_known.specs.Naming.{name_at}
 use Rattle.sve_contents.specs.declared.contents.Contents.{Contents}
 use Rattle.sve_contents.specs.Nested.{entered}
 use Rattle.sve_function.specs.Readings.{readings}
@@ -24,13 +25,17 @@ use Rattle.sve_look.specs.Questions.{ElementOf, IndexOf, PackageOf, Reply}
 use Rattle.sve_body.specs.Steps.{Steps}
 use Rattle.sve_body.specs.Items.{header}
 use Rattle.sve_body.specs.Body.{counted_item}
+use Rattle.sve_design_kinds.specs.declared.kinds.KnownDesign.{KnownDesign}
+use Rattle.sve_design_kinds.specs.Names.{header_names}
+use Rattle.sve_design_kinds.specs.Kinds.{asked_at, element_kind, sought, with_kind, with_name, with_token}
+use Rattle.sve_design_kinds.specs.Designs.{Designs, designs_by, designs_named}
 use Rattle.sve_elaboration.specs.Ends.{begun_body, facts_of}
 use Rattle.sve_elaboration.specs.Elaborating.{elaborating}
 use Rattle.sve_unit_scope.specs.Elements.{ChunkElement, element_of, elements_before, with_element}
 use Rattle.sve_unit_scope.specs.Packages.{is_sought, packages_named, with_facts, with_package, with_packages, with_unit_packages}
 use Rattle.sve_unit_scope.specs.Units.{unit_of}
 use Rattle.sve_elaborate.specs.declared.extent.Extent.TheVariants as is_extent
-use Rattle.sve_elaborate.specs.Bodies.{IsNoPorts, at_definition, at_place, body_in, definition_of, elaborated_to, header_ports, of_definition, of_element, of_tree, ports_of, values_of}
+use Rattle.sve_elaborate.specs.Bodies.{IsNoPorts, at_definition, at_place, body_in, definition_of, elaborated_to, header_ports, instantiations_to, of_definition, of_element, of_tree, ports_of, values_of, within}
 
 -- ---- plans in general
 
@@ -61,10 +66,10 @@ no_items : {Q : Type 0} {A : Q → Type 0} {I S : Type 0} (P : Q → Type 0) (f 
 unfolding each AsksOnly
 no_items P f s = tt
 
-body_only : (packages : List Known) (ws : List Word) (given : List Given) (c : Contents) (d : Definition) → AsksOnly IsNoPorts (body_in is_extent.Header packages ws given c d)
+body_only : (packages : List Known) (ws : List Word) (designs : Designs) (given : List Given) (c : Contents) (d : Definition) → AsksOnly IsNoPorts (body_in is_extent.Header packages ws designs given c d)
 unfolding body_in
-body_only packages ws given c d =
-    let s = begun_body packages ws given c d in
+body_only packages ws designs given c d =
+    let s = begun_body packages ws designs given c d in
     asks_only_then IsNoPorts (and_then (header elaborating d.header s) (each (counted_item elaborating) [])) (λ t. Give (facts_of t))
     (asks_only_then IsNoPorts (header elaborating d.header s) (each (counted_item elaborating) []) (header_only elaborating d.header s) (no_items IsNoPorts (counted_item elaborating))) (λ t. give_only Reply IsNoPorts (facts_of t))
 
@@ -84,14 +89,29 @@ named_only index es own =
     asks_only_then IsNoPorts (each (with_unit_packages index) es []) (with_packages index (packages_in (own_words own)))
     (each_only IsNoPorts (with_unit_packages index) es [] (λ e known. packages_only index (packages_in (unit_words e.element)) known)) (packages_only index (packages_in (own_words own)))
 
+asked_only : (n : List ℕ) (def : Option Def) (known : List KnownDesign) → AsksOnly IsNoPorts (asked_at n def known)
+asked_only n None known = give_only Reply IsNoPorts known
+asked_only n (Some def) known = ask_only IsNoPorts (ElementOf def.file def.chunk) (λ e. Give (with_kind known n (element_kind e))) tt (λ e. give_only Reply IsNoPorts (with_kind known n (element_kind e)))
+
+name_only : (index : Index) (n : Option (List ℕ)) (known : List KnownDesign) → AsksOnly IsNoPorts (with_name index n known)
+name_only index None known = give_only Reply IsNoPorts known
+name_only index (Some n) known = asked_only n (sought index known n) known
+
+designs_only : (index : Index) (ws : List Word) (h : Header) (tokens : List ℕ) → AsksOnly IsNoPorts (designs_named index ws h tokens)
+designs_only index ws h tokens =
+    asks_only_then IsNoPorts (each (with_token index ws) (header_names h ++ tokens) []) (λ kinds. Give (designs_by ws tokens kinds))
+    (each_only IsNoPorts (with_token index ws) (header_names h ++ tokens) [] (λ t known. name_only index (name_at ws t) known)) (λ kinds. give_only Reply IsNoPorts (designs_by ws tokens kinds))
+
 module _ (index : Index) (spec : Specialization) (def : Def) where
-  definition_only : (packages : List Known) (es : List ChunkElement) (own : Element) (d : Option Definition) → AsksOnly IsNoPorts (of_definition is_extent.Header packages spec def es own d)
+  definition_only : (packages : List Known) (es : List ChunkElement) (own : Element) (d : Option Definition) → AsksOnly IsNoPorts (of_definition is_extent.Header index packages spec def es own d)
   definition_only packages es own None = give_only Reply IsNoPorts no_facts
-  definition_only packages es own (Some d) = body_only packages own.words.items (values_of spec) (entered (unit_of readings packages def.file def.chunk es own)) d
+  definition_only packages es own (Some d) =
+      asks_only_then IsNoPorts (designs_named index own.words.items d.header (instantiations_to is_extent.Header own)) (λ designs. within is_extent.Header packages designs spec def es own d)
+      (designs_only index own.words.items d.header (instantiations_to is_extent.Header own)) (λ designs. body_only packages own.words.items designs (values_of spec) (entered (unit_of readings packages def.file def.chunk es own)) d)
 
   tree_only : (es : List ChunkElement) (own : Element) → AsksOnly IsNoPorts (of_tree is_extent.Header index spec def es own)
   tree_only es own =
-      asks_only_then IsNoPorts (packages_named index es own) (λ packages. of_definition is_extent.Header packages spec def es own (element_definition own)) (named_only index es own) (λ packages. definition_only packages es own (element_definition own))
+      asks_only_then IsNoPorts (packages_named index es own) (λ packages. of_definition is_extent.Header index packages spec def es own (element_definition own)) (named_only index es own) (λ packages. definition_only packages es own (element_definition own))
 
   element_only : (es : List ChunkElement) (own : Option Element) → AsksOnly IsNoPorts (of_element is_extent.Header index spec def es own)
   element_only es None = give_only Reply IsNoPorts no_facts

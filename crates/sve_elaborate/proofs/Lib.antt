@@ -1,4 +1,3 @@
-pub mod Leaving
 pub mod Beginnings
 pub mod Bodies
 pub mod Ended

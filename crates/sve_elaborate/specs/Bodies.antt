@@ -27,6 +27,8 @@ use Rattle.sve_plan.specs.declared.stop.Stop.TheVariants as is_stop
 use Rattle.sve_plan.specs.Plan.{Done, Give, Needs, Outcome, Over, Plan, and_then, ask}
 use Rattle.sve_look.specs.Questions.{ElementOf, IndexOf, NetAt, PackageOf, PortsOf, Question, Reply}
 use Rattle.sve_body.specs.Body.{body}
+use Rattle.sve_design_kinds.specs.Designs.{Designs, designs_named}
+use Rattle.sve_design_kinds.specs.Names.{instantiations}
 use Rattle.sve_elaboration.specs.Ends.{begun_body, facts_of}
 use Rattle.sve_elaboration.specs.Elaborating.{elaborating}
 use Rattle.sve_unit_scope.specs.Elements.{ChunkElement, elements_before}
@@ -47,23 +49,32 @@ abbrev pub items_to : Extent → Definition → List Item
 items_to is_extent.Header d = []
 items_to is_extent.Whole d = d.items.items
 
+-- the instantiations behind it
+abbrev pub instantiations_to : Extent → Element → List ℕ
+instantiations_to is_extent.Header own = []
+instantiations_to is_extent.Whole own = instantiations own
+
 -- A body in its scope: its header, then items of it, and then what was found.
-unfoldable pub body_in : Extent → List Known → List Word → List Given → Contents → Definition → Plan Reply Facts
-body_in extent packages ws given c d = and_then (body elaborating d.header (items_to extent d) (begun_body packages ws given c d)) (λ s. Give (facts_of s))
+unfoldable pub body_in : Extent → List Known → List Word → Designs → List Given → Contents → Definition → Plan Reply Facts
+body_in extent packages ws designs given c d = and_then (body elaborating d.header (items_to extent d) (begun_body packages ws designs given c d)) (λ s. Give (facts_of s))
 
 module _ (extent : Extent) where
   -- The scope of the body stands inside of the scope of the compilation unit.
-  abbrev pub within : List Known → Specialization → Def → List ChunkElement → Element → Definition → Plan Reply Facts
-  within packages spec def es own d = body_in extent packages own.words.items (values_of spec) (entered (unit_of readings packages def.file def.chunk es own)) d
+  abbrev pub within : List Known → Designs → Specialization → Def → List ChunkElement → Element → Definition → Plan Reply Facts
+  within packages designs spec def es own d = body_in extent packages own.words.items designs (values_of spec) (entered (unit_of readings packages def.file def.chunk es own)) d
+
+  -- What the modules and interfaces are that it names is asked first.
+  abbrev pub in_designs : Index → List Known → Specialization → Def → List ChunkElement → Element → Definition → Plan Reply Facts
+  in_designs index packages spec def es own d = and_then (designs_named index own.words.items d.header (instantiations_to extent own)) (λ designs. within packages designs spec def es own d)
 
   -- an element without module or interface has a body with nothing in it
-  abbrev pub of_definition : List Known → Specialization → Def → List ChunkElement → Element → Option Definition → Plan Reply Facts
-  of_definition packages spec def es own None = Give no_facts
-  of_definition packages spec def es own (Some d) = within packages spec def es own d
+  abbrev pub of_definition : Index → List Known → Specialization → Def → List ChunkElement → Element → Option Definition → Plan Reply Facts
+  of_definition index packages spec def es own None = Give no_facts
+  of_definition index packages spec def es own (Some d) = in_designs index packages spec def es own d
 
 module _ (extent : Extent) (index : Index) (spec : Specialization) (def : Def) where
   abbrev pub of_tree : List ChunkElement → Element → Plan Reply Facts
-  of_tree es own = and_then (packages_named index es own) (λ packages. of_definition extent packages spec def es own (element_definition own))
+  of_tree es own = and_then (packages_named index es own) (λ packages. of_definition extent index packages spec def es own (element_definition own))
 
   -- so has a chunk that is refused
   abbrev pub of_element : List ChunkElement → Option Element → Plan Reply Facts

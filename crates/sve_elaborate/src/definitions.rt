@@ -6,13 +6,14 @@ ghost use Rattle.sve_index.specs.Defs.{def_name};
 ghost use Rattle.sve_plan.specs.Follows.{Follows};
 ghost use Rattle.sve_look.specs.Questions.{element_in};
 ghost use Rattle.sve_tree.specs.Elements.{element_definition};
-ghost use Rattle.sve_elaborate.specs.Bodies.{at_definition, at_place, definition_of, elaborated_to, of_definition, of_element, of_tree, values_of, within};
+ghost use Rattle.sve_elaborate.specs.Bodies.{at_definition, at_place, definition_of, elaborated_to, in_designs, of_definition, of_element, of_tree, values_of, within};
 
 use crate::extent::Extent;
 use crate::within::{body_in, scope_in_unit};
 use std::alloc::Global;
 use std::sync::Arc;
 use sve_bytes::Name;
+use sve_design_kinds::{Designs, designs_named};
 use sve_facts::Facts;
 use sve_function::Constants;
 use sve_index::{Def, Index};
@@ -40,11 +41,13 @@ fn values_of(spec: &Spec) -> &[Given]
     spec.values.items()
 }
 
-/// The body of a definition, over the packages that are known and the elements in front of its own.
+/// The body of a definition, over the packages that are known, the elements in front of its own, and what the modules and interfaces are that
+/// it names.
 fn within<W: Look>(
     alloc: Global,
     extent: Extent,
     packages: &Table<Known>,
+    designs: &Designs,
     spec: &Spec,
     def: &Def,
     elements: &[ChunkElement],
@@ -54,7 +57,7 @@ fn within<W: Look>(
     fuel: &mut Fuel,
 ) -> Result<Facts, Stop>
     requires { IsFuel fuel.old }
-    ensures { Follows (record { tells = W.tells; keeps = W.keeps; halted = W.halted; stops = W.stops; asked = W.asked }) world.old world.new fuel.old fuel.new (within extent packages.now spec.now def.now elements.now own.now definition.now) result }
+    ensures { Follows (record { tells = W.tells; keeps = W.keeps; halted = W.halted; stops = W.stops; asked = W.asked }) world.old world.new fuel.old fuel.new (within extent packages.now designs.now spec.now def.now elements.now own.now definition.now) result }
 {
     let contents = scope_in_unit(
         alloc, &Constants, packages, &def.file, def.chunk, elements, own,
@@ -67,6 +70,7 @@ fn within<W: Look>(
         alloc,
         extent,
         text,
+        designs,
         values_of(spec),
         contents,
         definition,
@@ -75,10 +79,37 @@ fn within<W: Look>(
     )
 }
 
+/// The body of a definition, which asks first what the modules and interfaces are that it names.
+fn in_designs<W: Look>(
+    alloc: Global,
+    extent: Extent,
+    index: &Index,
+    packages: &Table<Known>,
+    spec: &Spec,
+    def: &Def,
+    elements: &[ChunkElement],
+    own: &Element,
+    definition: &Definition,
+    world: &mut W,
+    fuel: &mut Fuel,
+) -> Result<Facts, Stop>
+    requires { IsFuel fuel.old }
+    ensures { Follows (record { tells = W.tells; keeps = W.keeps; halted = W.halted; stops = W.stops; asked = W.asked }) world.old world.new fuel.old fuel.new (in_designs extent index.now packages.now spec.now def.now elements.now own.now definition.now) result }
+{
+    let instantiations = extent.instantiations(alloc, own)?;
+    let words = own.words.as_slice();
+    let header = &definition.header;
+    let designs = designs_named(alloc, index, words, header, instantiations, world, fuel)?;
+    within(
+        alloc, extent, packages, &designs, spec, def, elements, own, definition, world, fuel,
+    )
+}
+
 /// The body of an element, by whether it has a module or an interface.
 fn of_definition<W: Look>(
     alloc: Global,
     extent: Extent,
+    index: &Index,
     packages: &Table<Known>,
     spec: &Spec,
     def: &Def,
@@ -88,12 +119,12 @@ fn of_definition<W: Look>(
     fuel: &mut Fuel,
 ) -> Result<Facts, Stop>
     requires { IsFuel fuel.old }
-    ensures { Follows (record { tells = W.tells; keeps = W.keeps; halted = W.halted; stops = W.stops; asked = W.asked }) world.old world.new fuel.old fuel.new (of_definition extent packages.now spec.now def.now elements.now own.now (element_definition own.now)) result }
+    ensures { Follows (record { tells = W.tells; keeps = W.keeps; halted = W.halted; stops = W.stops; asked = W.asked }) world.old world.new fuel.old fuel.new (of_definition extent index.now packages.now spec.now def.now elements.now own.now (element_definition own.now)) result }
 {
     match own.definition() {
         Some(definition) => {
-            within(
-                alloc, extent, packages, spec, def, elements, own, definition, world, fuel,
+            in_designs(
+                alloc, extent, index, packages, spec, def, elements, own, definition, world, fuel,
             )
         }
         None => Ok(Facts::none(alloc)),
@@ -118,7 +149,7 @@ fn of_tree<W: Look>(
     let mut packages = Table::new(alloc);
     add_packages_named(alloc, index, elements, own, &mut packages, world, fuel)?;
     of_definition(
-        alloc, extent, &packages, spec, def, elements, own, world, fuel,
+        alloc, extent, index, &packages, spec, def, elements, own, world, fuel,
     )
 }
 

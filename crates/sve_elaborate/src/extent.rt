@@ -1,7 +1,10 @@
-ghost use Rattle.std.specs.Prelude.{◌≡◌};
-ghost use Rattle.sve_elaborate.specs.Bodies.{items_to};
+ghost use Rattle.std.specs.Prelude.{◌≡◌, IfOk};
+ghost use Rattle.sve_elaborate.specs.Bodies.{instantiations_to, items_to};
 
-use sve_tree::{Definition, Item};
+use std::alloc::Global;
+use sve_bytes::NoMemory;
+use sve_design_kinds::instantiations;
+use sve_tree::{Definition, Element, Item};
 
 /// How far the text of a module or an interface is gone over.
 #[derive(Clone, Copy)]
@@ -20,6 +23,20 @@ impl Extent {
         match self {
             Extent::Header => &[],
             Extent::Whole => &definition.items,
+        }
+    }
+
+    /// The tokens at which the instantiations begin that are gone over, selected or not.
+    pub(crate) fn instantiations(
+        self,
+        alloc: Global,
+        element: &Element,
+    ) -> Result<Vec<u32>, NoMemory>
+        ensures { IfOk result (λ tokens. tokens.items ≡ instantiations_to self element.now) }
+    {
+        match self {
+            Extent::Header => Ok(Vec::new(alloc)),
+            Extent::Whole => instantiations(alloc, element),
         }
     }
 }

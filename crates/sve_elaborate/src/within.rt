@@ -11,6 +11,7 @@ use std::alloc::Global;
 use sve_body_whole::body;
 use sve_bytes::{Name, NoMemory};
 use sve_contents::Contents;
+use sve_design_kinds::Designs;
 use sve_elaboration::Elaboration;
 use sve_facts::Facts;
 use sve_known::Known;
@@ -44,6 +45,7 @@ pub(crate) fn body_in<W: Look>(
     alloc: Global,
     extent: Extent,
     text: Text,
+    designs: &Designs,
     given: &[Given],
     contents: Contents,
     definition: &Definition,
@@ -51,9 +53,9 @@ pub(crate) fn body_in<W: Look>(
     fuel: &mut Fuel,
 ) -> Result<Facts, Stop>
     requires { IsFuel fuel.old }
-    ensures { Follows (record { tells = W.tells; keeps = W.keeps; halted = W.halted; stops = W.stops; asked = W.asked }) world.old world.new fuel.old fuel.new (body_in extent text.entry.packages.now text.entry.words.now given.now contents definition.now) result }
+    ensures { Follows (record { tells = W.tells; keeps = W.keeps; halted = W.halted; stops = W.stops; asked = W.asked }) world.old world.new fuel.old fuel.new (body_in extent text.entry.packages.now text.entry.words.now designs.now given.now contents definition.now) result }
 {
-    let mut work = Elaboration::begun(alloc, text, given, contents, definition)?;
+    let mut work = Elaboration::begun(alloc, text, designs, given, contents, definition)?;
     body(
         alloc,
         &mut work,

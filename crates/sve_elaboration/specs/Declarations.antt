@@ -23,11 +23,10 @@ use Rattle.sve_body_parameter.specs.declared.overridable.Overridable.{Overridabl
 use Rattle.sve_body_parameter.specs.Overridable.{with_overridable}
 use Rattle.sve_body_parameter.specs.Nodes.{overridable_nodes}
 use Rattle.sve_counted_item.specs.Counted.{counted_data, counted_function, counted_nets, counted_parameters, counted_typedef, counted_variables}
-use Rattle.sve_child.specs.Interfaces.{no_kind}
 use Rattle.sve_elaboration.specs.State.{Found}
-use Rattle.sve_elaboration.specs.Scopes.{contents_of, costing, depth_in, known_in, packages_of, with_contents, words_of}
+use Rattle.sve_elaboration.specs.Scopes.{contents_of, costing, depth_in, kinds_of, known_in, packages_of, with_contents, words_of}
 
--- ---- the header: which names are those of interfaces is not told apart
+-- ---- the header
 
 abbrev pub header_imports_in : Header → Found → Found
 header_imports_in h s = with_contents s (with_header_imports (packages_of s) (words_of s) (contents_of s) h)
@@ -42,7 +41,7 @@ abbrev pub with_ports : Found → HeaderPorts → Found
 with_ports s p = record (with_contents s p.contents) { ports = p.ports }
 
 abbrev pub header_ports_in : Header → Found → Counted Found
-header_ports_in h s = costing (with_ports s) (with_header_ports (told_in (packages_of s) (words_of s)) (words_of s) no_kind (contents_of s) h)
+header_ports_in h s = costing (with_ports s) (with_header_ports (told_in (packages_of s) (words_of s)) (words_of s) (kinds_of s) (contents_of s) h)
 
 -- ---- parameters
 

@@ -8,16 +8,18 @@ use Rattle.sve_item_names.specs.Declarations.{header_headings}
 use Rattle.sve_ahead.specs.Ahead.{ahead_in}
 use Rattle.sve_spec.specs.declared.given.Given.{Given}
 use Rattle.sve_known.specs.Packages.{Known}
+use Rattle.sve_design_kinds.specs.Designs.{Designs}
 use Rattle.sve_nested.specs.Blocks.{begun, closed}
 use Rattle.sve_facts.specs.declared.facts.Facts.{Facts}
 use Rattle.sve_elaboration.specs.State.{Found}
 
--- A body begins, where these packages are known, in a chunk of these words, by what its parameters are given: in its scope what its text declares further on
+-- A body begins, where these packages are known, in a chunk of these words that names these designs, by what its parameters are given: in its scope what its text declares further on
 -- is announced.
-abbrev pub begun_body : List Known → List Word → List Given → Contents → Definition → Found
-begun_body packages ws given c d = record {
+abbrev pub begun_body : List Known → List Word → Designs → List Given → Contents → Definition → Found
+begun_body packages ws designs given c d = record {
   packages = packages;
   words = ws;
+  designs = designs;
   given = given;
   is_open = is_none d.header.parameters;
   place = 0;

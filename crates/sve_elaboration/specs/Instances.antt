@@ -19,7 +19,7 @@ use Rattle.sve_child.specs.Definitions.{place_named, undefined}
 use Rattle.sve_child.specs.Nets.{net_tokens, net_tokens_of_none}
 use Rattle.sve_body.specs.declared.place.Place.{Place}
 use Rattle.sve_elaboration.specs.State.{Found}
-use Rattle.sve_elaboration.specs.Scopes.{contents_of, costing, packages_of, with_contents, words_of}
+use Rattle.sve_elaboration.specs.Scopes.{contents_of, costing, interfaces_of, packages_of, with_contents, words_of}
 use Rattle.sve_elaboration.specs.Names.{and_one}
 
 -- ---- an instantiation: its overrides are kept for its instances
@@ -45,16 +45,16 @@ abbrev pub specialized_by : ℕ → Option Element → Instance → Found → Op
 specialized_by definition element i s = with_specialized s (with_specialization (words_of s) (contents_of s) s.overrides definition element i)
 
 abbrev pub connection_tokens_in : List Port → Instance → Found → List ℕ
-connection_tokens_in ports i s = net_tokens (packages_of s) (words_of s) (contents_of s) ports i
+connection_tokens_in ports i s = net_tokens (packages_of s) (words_of s) (interfaces_of s) (contents_of s) ports i
 
 abbrev pub with_placed : Found → Placed → Found
 with_placed s p = record (with_contents s p.contents) { children = and_one s.children p.child }
 
 abbrev pub child_in : Specialization → List Port → Instance → Found → Found
-child_in spec ports i s = with_placed s (with_child (packages_of s) (words_of s) (contents_of s) (inner_path s.nested) spec ports i)
+child_in spec ports i s = with_placed s (with_child (packages_of s) (words_of s) (interfaces_of s) (contents_of s) (inner_path s.nested) spec ports i)
 
 abbrev pub unknown_tokens_in : Instance → Found → List ℕ
-unknown_tokens_in i s = net_tokens_of_none (packages_of s) (words_of s) (contents_of s) i
+unknown_tokens_in i s = net_tokens_of_none (packages_of s) (words_of s) (interfaces_of s) (contents_of s) i
 
 abbrev pub unknown_in : Instance → Found → Found
-unknown_in i s = with_contents s (with_no_child (packages_of s) (words_of s) (contents_of s) i)
+unknown_in i s = with_contents s (with_no_child (packages_of s) (words_of s) (interfaces_of s) (contents_of s) i)

@@ -10,6 +10,7 @@ use Rattle.sve_item_names.specs.declared.name.ItemName.{ItemName}
 use Rattle.sve_env.specs.Told.{Told}
 use Rattle.sve_known.specs.Packages.{Known}
 use Rattle.sve_contents.specs.declared.contents.Contents.{Contents}
+use Rattle.sve_scope.specs.declared.declared.Declared.{Declared}
 use Rattle.sve_scoped.specs.Known.{told_in}
 use Rattle.sve_ahead.specs.Ahead.{ahead_in}
 use Rattle.sve_nested.specs.declared.nested.Nested.{Nested}
@@ -17,6 +18,8 @@ use Rattle.sve_nested.specs.Blocks.{entered_in, left_in}
 use Rattle.sve_nested.specs.Labels.{counted_in, label_fault_in}
 use Rattle.sve_nested.specs.Genvars.{declaring_genvar, genvar_fault_in}
 use Rattle.sve_known.specs.Naming.{name_at}
+use Rattle.sve_port.specs.declared.interfaces.DesignKind.{DesignKind}
+use Rattle.sve_design_kinds.specs.Designs.{interface_of, kind_named}
 use Rattle.sve_plan.specs.Plan.{Counted}
 use Rattle.sve_body.specs.Body.{block_label}
 use Rattle.sve_elaboration.specs.State.{Found}
@@ -28,6 +31,13 @@ packages_of s = s.packages
 
 abbrev pub words_of : Found → List Word
 words_of s = s.words
+
+-- what a name is, and of which interface an instance is
+abbrev pub kinds_of : Found → List ℕ → Option DesignKind
+kinds_of s = kind_named s.designs
+
+abbrev pub interfaces_of : Found → Declared → Option (List ℕ)
+interfaces_of s = interface_of s.designs
 
 abbrev pub contents_of : Found → Contents
 contents_of s = s.nested.contents

@@ -9,6 +9,7 @@ use std::marker::Model;
 use sve_ahead::{Ahead, seen_ahead};
 use sve_bytes::{List, NoMemory};
 use sve_contents::Contents;
+use sve_design_kinds::Designs;
 use sve_facts::{Child, Facts, ImplicitNet, ParameterValue, Port};
 use sve_item_names::header_names;
 use sve_nested::{Nested, Scopes};
@@ -23,6 +24,7 @@ use sve_tree::{Definition, Word};
 pub struct Elaboration<'a> {
     pub(crate) alloc: Global,
     pub(crate) text: Text<'a>,
+    pub(crate) designs: &'a Designs<'a>,
     pub(crate) given: &'a [Given],
     pub(crate) is_open: bool,
     pub(crate) place: usize,
@@ -44,6 +46,7 @@ impl<'a> Model for Elaboration<'a> {
     ghost view = { λ s. record {
       packages = s.text.packages.now;
       words = s.text.words.now;
+      designs = s.designs.now;
       given = s.given.now;
       is_open = s.is_open;
       place = s.place;
@@ -66,24 +69,27 @@ fn ahead_of(alloc: Global, words: &[Word], definition: &Definition) -> Result<Ah
 
 impl<'a> Elaboration<'a> {
     /// A body that begins in a scope in which nothing is declared yet (IEEE 1800-2017, 23.9), by what a specialization gives the parameters
-    /// that can be overridden, in the order of the text. What its text declares further on is announced.
+    /// that can be overridden, in the order of the text, and by what the modules and interfaces are that it names. What its text declares
+    /// further on is announced.
     ///
     /// # Errors
     /// For want of memory alone.
     pub fn begun(
         alloc: Global,
         text: Text<'a>,
+        designs: &'a Designs<'a>,
         given: &'a [Given],
         contents: Contents,
         definition: &Definition,
     ) -> Result<Elaboration<'a>, NoMemory>
-        ensures { IfOk result (λ s. s ≡ begun_body text.entry.packages.now text.entry.words.now given.now contents definition.now) }
+        ensures { IfOk result (λ s. s ≡ begun_body text.entry.packages.now text.entry.words.now designs.now given.now contents definition.now) }
     {
         let ahead = ahead_of(alloc, text.words, definition)?;
         let nested = Nested::begun(alloc, contents, ahead)?;
         Ok(Elaboration {
             alloc,
             text,
+            designs,
             given,
             is_open: definition.header.parameters.is_none(),
             place: 0,
@@ -106,6 +112,7 @@ impl<'a> Elaboration<'a> {
         let Elaboration {
             alloc,
             text: _,
+            designs: _,
             given: _,
             is_open: _,
             place: _,

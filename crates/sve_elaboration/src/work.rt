@@ -11,8 +11,8 @@ use sve_body::{Place, Work};
 use sve_body_parameter::{Overridable, count_overridable, with_overridable};
 use sve_bytes::{Name, NetType, NoMemory};
 use sve_child::{
-    Implied, NoInterfaces, Placed, implied_net, net_tokens, net_tokens_of_none, place_named,
-    specialized_in, stands_for_something, undefined, with_child, with_no_child,
+    Implied, Placed, implied_net, net_tokens, net_tokens_of_none, place_named, specialized_in,
+    stands_for_something, undefined, with_child, with_no_child,
 };
 use sve_counted_item::{
     data_in, function_in, nets_in, parameters_in, statement_in, typedef_in, variables_in,
@@ -150,14 +150,7 @@ impl<'a> Work for Elaboration<'a> {
 
     fn header_ports(&mut self, header: &Header, fuel: &mut Fuel) -> Result<(), Halted> {
         let contents = taken_out(self.alloc, &mut self.nested.contents)?;
-        let found = with_header_ports(
-            self.alloc,
-            self.text,
-            &NoInterfaces,
-            contents,
-            header,
-            fuel,
-        )?;
+        let found = with_header_ports(self.alloc, self.text, self.designs, contents, header, fuel)?;
         let HeaderPorts { contents, ports } = found;
         self.nested.contents = contents;
         self.ports = ports;
@@ -326,6 +319,7 @@ impl<'a> Work for Elaboration<'a> {
             self.alloc,
             self.text,
             &self.nested.contents,
+            self.designs,
             ports,
             instance,
         )
@@ -334,19 +328,40 @@ impl<'a> Work for Elaboration<'a> {
     fn child(&mut self, spec: Spec, ports: &[Port], instance: &Instance) -> Result<(), NoMemory> {
         let contents = taken_out(self.alloc, &mut self.nested.contents)?;
         let path = &self.nested.blocks.inner.path;
-        let placed = with_child(self.alloc, self.text, contents, path, spec, ports, instance)?;
+        let placed = with_child(
+            self.alloc,
+            self.text,
+            contents,
+            self.designs,
+            path,
+            spec,
+            ports,
+            instance,
+        )?;
         let Placed { contents, child } = placed;
         self.nested.contents = contents;
         add_one(&mut self.children, child)
     }
 
     fn unknown_tokens(&self, instance: &Instance) -> Result<Vec<u32>, NoMemory> {
-        net_tokens_of_none(self.alloc, self.text, &self.nested.contents, instance)
+        net_tokens_of_none(
+            self.alloc,
+            self.text,
+            &self.nested.contents,
+            self.designs,
+            instance,
+        )
     }
 
     fn unknown(&mut self, instance: &Instance) -> Result<(), NoMemory> {
         let contents = taken_out(self.alloc, &mut self.nested.contents)?;
-        self.nested.contents = with_no_child(self.alloc, self.text, contents, instance)?;
+        self.nested.contents = with_no_child(
+            self.alloc,
+            self.text,
+            contents,
+            self.designs,
+            instance,
+        )?;
         Ok(())
     }
 }

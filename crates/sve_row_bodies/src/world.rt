@@ -1,21 +1,18 @@
 //! What the elaboration of the body of a row reads.
-use std::alloc::{AllocError, Global};
+use std::alloc::Global;
 use std::sync::Arc;
-use sve_body::Work;
 use sve_bytes::{List, Name, NetType, NoMemory};
-use sve_elaboration::Elaboration;
+use sve_elaborate::ports;
 use sve_facts::{Facts, Port};
-use sve_fault::{Fuel, Halted};
 use sve_function::Constants;
 use sve_index::{FileElement, Index};
 use sve_io::Halt;
 use sve_known::Known;
 use sve_look::Look;
-use sve_package::{cyclic_package, package, unit_scope};
-use sve_scoped::Text;
-use sve_spec::{Given, Spec};
+use sve_package::{cyclic_package, package};
+use sve_spec::Spec;
 use sve_table::Table;
-use sve_tree::{Definition, Element, Header};
+use sve_tree::Element;
 
 /// What the elaboration of the body of a row reads: the elements of its file, and what is told of them.
 #[derive(Drop)]
@@ -44,121 +41,7 @@ fn element_at(elements: &[FileElement], chunk: u32) -> Option<&FileElement> {
     None
 }
 
-/// The same port, which is no interface port.
-fn copied(port: &Port) -> Result<Port, NoMemory> {
-    Ok(Port {
-        name: port.name.copy()?,
-        direction: port.direction,
-        net: port.net,
-        ty: port.ty.copy()?,
-        face: None,
-        token: port.token,
-    })
-}
-
-/// The ports among what is found of a header.
-fn shared(alloc: Global, facts: &Facts) -> Result<Arc<List<Port>>, NoMemory> {
-    let mut ports = Vec::new(alloc);
-    for port in facts.ports.items() {
-        ports.push(copied(port)?)?;
-    }
-    Ok(Arc::new(alloc, List::of(ports))?)
-}
-
-/// No ports.
-fn no_ports(alloc: Global) -> Result<Arc<List<Port>>, NoMemory> {
-    Ok(Arc::new(alloc, List::of(Vec::new(alloc)))?)
-}
-
-/// What is over where it cannot be counts as want of memory.
-fn unhalted(outcome: Result<(), Halted>) -> Result<(), NoMemory> {
-    match outcome {
-        Ok(()) => Ok(()),
-        Err(_) => Err(AllocError),
-    }
-}
-
-/// The parameters of a header.
-fn add_parameters(work: &mut Elaboration<'_>, header: &Header) -> Result<(), NoMemory> {
-    let mut fuel = Fuel {
-        used: 0,
-        most: u64::MAX,
-    };
-    unhalted(work.header_parameters(header, &mut fuel))
-}
-
-/// The ports of a header.
-fn add_ports(work: &mut Elaboration<'_>, header: &Header) -> Result<(), NoMemory> {
-    let mut fuel = Fuel {
-        used: 0,
-        most: u64::MAX,
-    };
-    unhalted(work.header_ports(header, &mut fuel))
-}
-
-/// What is found of a header.
-fn header_facts(work: Elaboration<'_>, header: &Header) -> Result<Facts, NoMemory> {
-    let mut work = work;
-    work.header_imports(header)?;
-    add_parameters(&mut work, header)?;
-    add_ports(&mut work, header)?;
-    work.into_facts()
-}
-
 impl<'a> World<'a> {
-    /// What is found of the header of the definition of an element, which is the last of these.
-    fn header_of(
-        &self,
-        each: &FileElement,
-        before: &[FileElement],
-        definition: &Definition,
-        given: &[Given],
-    ) -> Result<Facts, NoMemory> {
-        let alloc = self.alloc;
-        let text = Text {
-            packages: self.known,
-            words: each.element().words.as_slice(),
-        };
-        let unit = unit_scope(alloc, &Constants, self.known, self.file, each.chunk, before)?;
-        let contents = unit.entered(alloc)?;
-        let work = Elaboration::begun(alloc, text, given, contents, definition)?;
-        header_facts(work, &definition.header)
-    }
-
-    /// The ports of the definition of an element, which is the last of these.
-    fn ports_of(
-        &self,
-        each: &FileElement,
-        before: &[FileElement],
-        given: &[Given],
-    ) -> Result<Arc<List<Port>>, NoMemory> {
-        match each.element().definition() {
-            Some(definition) => {
-                let facts = self.header_of(each, before, definition, given)?;
-                shared(self.alloc, &facts)
-            }
-            None => no_ports(self.alloc),
-        }
-    }
-
-    /// The ports of the definition in a chunk.
-    fn ports_at(&self, chunk: u32, given: &[Given]) -> Result<Arc<List<Port>>, NoMemory> {
-        for (place, each) in self.elements.iter().enumerate() {
-            if each.chunk == chunk {
-                return self.ports_of(each, &self.elements[..place + 1], given);
-            }
-        }
-        no_ports(self.alloc)
-    }
-
-    /// The ports of a specialization.
-    fn ports_named(&self, spec: &Spec) -> Result<Arc<List<Port>>, NoMemory> {
-        match self.index.definitions.get(&spec.definition) {
-            Some(def) => self.ports_at(def.chunk, spec.values.items()),
-            None => no_ports(self.alloc),
-        }
-    }
-
     /// What is found of the package of an element, which is on a cycle or not.
     fn facts_of(&self, each: &FileElement, is_cyclic: bool) -> Result<Facts, NoMemory> {
         let tree = each.element();
@@ -194,6 +77,14 @@ impl<'a> World<'a> {
         Ok(Arc::new(self.alloc, facts)?)
     }
 
+    /// The net type that is in force at a token of a chunk.
+    fn net_at(&self, chunk: u32, token: u32) -> NetType {
+        if chunk == self.none.0 && token >= self.none.1 {
+            return NetType::None;
+        }
+        NetType::Wire
+    }
+
     /// The element of a chunk, to be shared.
     fn element_in(&self, chunk: u32) -> Result<Option<Arc<Element>>, NoMemory> {
         match element_at(self.elements, chunk) {
@@ -201,6 +92,52 @@ impl<'a> World<'a> {
             None => Ok(None),
         }
     }
+}
+
+/// What a header of a row reads. It asks for no ports, and is told none.
+#[derive(Drop)]
+struct Headers<'a, 'b> {
+    world: &'b World<'a>,
+}
+
+/// It tells nothing of itself, as the world of the row.
+impl Look for Headers<'_, '_> {
+    ghost use Rattle.std.specs.Prelude.{None, []};
+
+    ghost tells = { λ world question answer. Unit {0} };
+
+    ghost keeps = { λ old new. Unit {0} };
+
+    ghost halted = { λ world. None };
+
+    ghost stops = { λ world. [] };
+
+    ghost asked = { λ world. None };
+
+    fn element(&mut self, _file: &Name, chunk: u32) -> Result<Option<Arc<Element>>, Halt> {
+        Ok(self.world.element_in(chunk)?)
+    }
+
+    fn net(&mut self, _file: &Name, chunk: u32, token: u32) -> Result<NetType, Halt> {
+        Ok(self.world.net_at(chunk, token))
+    }
+
+    fn index(&mut self) -> Result<Arc<Index>, Halt> {
+        Ok(Arc::try_clone(self.world.index)?)
+    }
+
+    fn package(&mut self, name: &Name) -> Result<Arc<Facts>, Halt> {
+        Ok(self.world.package_named(name)?)
+    }
+
+    fn ports(&mut self, _spec: &Spec) -> Result<Arc<List<Port>>, Halt> {
+        let alloc = self.world.alloc;
+        Ok(Arc::new(alloc, List::of(Vec::new(alloc)))?)
+    }
+
+    ghost keeps_itself = { λ world. tt };
+
+    ghost keeps_on = { λ old now new first second. tt };
 }
 
 /// It tells nothing of itself: rows are compared, and nothing is proved over it.
@@ -222,10 +159,7 @@ impl Look for World<'_> {
     }
 
     fn net(&mut self, _file: &Name, chunk: u32, token: u32) -> Result<NetType, Halt> {
-        if chunk == self.none.0 && token >= self.none.1 {
-            return Ok(NetType::None);
-        }
-        Ok(NetType::Wire)
+        Ok(self.net_at(chunk, token))
     }
 
     fn index(&mut self) -> Result<Arc<Index>, Halt> {
@@ -237,7 +171,9 @@ impl Look for World<'_> {
     }
 
     fn ports(&mut self, spec: &Spec) -> Result<Arc<List<Port>>, Halt> {
-        Ok(self.ports_named(spec)?)
+        let alloc = self.alloc;
+        let ports = ports(alloc, spec, &mut Headers { world: self })?;
+        Ok(Arc::new(alloc, ports)?)
     }
 
     ghost keeps_itself = { λ world. tt };

@@ -12,7 +12,7 @@ use Rattle.sve_plan.proofs.Steps.{begins, ends, goes_on, rests}
 use Rattle.sve_look.specs.Questions.{ElementOf, Reply, element_in}
 use Rattle.sve_unit_scope.specs.Elements.{element_of}
 use Rattle.sve_elaborate.specs.Bodies.{at_definition, of_element}
-use Rattle.sve_elaborate.proofs.Leaving.{leaves_with}
+use Rattle.sve_design_kinds.proofs.Leaving.{leaves_with}
 use Rattle.sve_elaborate.proofs.definitions.at_definition.Goals as goal
 
 pub returns-in_err-elements_before : goal.returns-in_err-elements_before

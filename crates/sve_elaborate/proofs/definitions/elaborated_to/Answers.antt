@@ -11,7 +11,7 @@ use Rattle.sve_plan.specs.Plan.{Plan, ask}
 use Rattle.sve_plan.proofs.Steps.{begins, ends, goes_on, rests}
 use Rattle.sve_look.specs.Questions.{IndexOf, Reply}
 use Rattle.sve_elaborate.specs.Bodies.{at_place, definition_of, elaborated_to}
-use Rattle.sve_elaborate.proofs.Leaving.{leaves_with}
+use Rattle.sve_design_kinds.proofs.Leaving.{leaves_with}
 use Rattle.sve_elaborate.proofs.definitions.elaborated_to.Goals as goal
 
 pub returns-in_err-index : goal.returns-in_err-index

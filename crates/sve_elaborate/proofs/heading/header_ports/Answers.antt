@@ -9,7 +9,7 @@ use Rattle.sve_plan.proofs.Steps.{begins, goes_on, rests}
 use Rattle.sve_look.specs.Questions.{Reply}
 use Rattle.sve_elaborate.specs.declared.extent.Extent.TheVariants as is_extent
 use Rattle.sve_elaborate.specs.Bodies.{elaborated_to, header_ports, ports_of}
-use Rattle.sve_elaborate.proofs.Leaving.{leaves_with}
+use Rattle.sve_design_kinds.proofs.Leaving.{leaves_with}
 use Rattle.sve_elaborate.proofs.heading.header_ports.Goals as goal
 
 pub returns-in_err-facts : goal.returns-in_err-facts

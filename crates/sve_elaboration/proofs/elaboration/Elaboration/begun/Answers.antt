@@ -12,6 +12,7 @@ pub returns : goal.returns
 returns c = λ i. record {
   packages = c.args.text.packages.now;
   words = c.args.text.words.now;
+  designs = c.args.designs.now;
   given = c.args.given.now;
   is_open = flipped (is_some c.args.definition.now.header.parameters) c.is_none.result c.is_none.ensures i;
   place = 0;

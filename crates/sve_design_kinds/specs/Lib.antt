@@ -1,0 +1,4 @@
+pub mod Beginnings
+pub mod Names
+pub mod Kinds
+pub mod Designs
