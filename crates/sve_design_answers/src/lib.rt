@@ -1,8 +1,9 @@
-//! The answers of the queries about the instances of a design: one instance, all of them, and what a name is declared as, or means, there; and
-//! what lint rules find in them.
+//! The answers of the queries about the design that some files are: one instance, all of them, what a name is declared as, or means, there, and
+//! what is wrong; and what lint rules find in the instances.
 #![tactic(auto)]
 
 mod answers;
+mod diagnosing;
 mod finding;
 mod lines;
 mod linting;

@@ -3,6 +3,7 @@ ghost use Rattle.std.specs.Prelude.{IfOk};
 ghost use Rattle.sve_design_answers.specs.Queries.{IsDesignAnswer, OverProject};
 
 use crate::answers::{answer_of, instance_answer, param_answer, type_answer};
+use crate::diagnosing::diagnostics_answer;
 use crate::resolving::resolve_answer;
 use crate::tree::tree_answer;
 use std::alloc::Global;
@@ -35,7 +36,8 @@ fn over_project(
         Query::Resolve { path, name } => {
             resolve_answer(alloc, files, project, path.items(), name.items(), budget)
         }
-        Query::File { .. } | Query::Expand { .. } | Query::Tops | Query::Diagnostics => {
+        Query::Diagnostics => diagnostics_answer(alloc, files, project, budget),
+        Query::File { .. } | Query::Expand { .. } | Query::Tops => {
             answer_of(alloc, none_lines(alloc)?)
         }
     }

@@ -5,6 +5,4 @@ mod Additions
 pub mod Held
 mod Trees
 mod Directives
-mod Places
 mod Stops
-mod NoteFiles

@@ -1,11 +1,11 @@
 -- What reading the units of a revision keeps (own).
-use Rattle.std.specs.Prelude.{ℕ, ◌≡◌, ◌⊎◌, List, [], ◌∷◌, ◌++◌, ◌<◌, ◌^◌, length, map, Err, is_some, true}
+use Rattle.std.specs.Prelude.{ℕ, ◌≡◌, ◌⊎◌, List, [], ◌∷◌, ◌++◌, ◌<◌, ◌^◌, length, map, Err}
 use Rattle.std.specs.List.{AllByRecursion}
 use Rattle.sve_token.specs.declared.token.Token.{Token}
 use Rattle.sve_grammar.specs.Machine.{Halt}
 use Rattle.sve_element.specs.Chunk.{read_whole}
 use Rattle.sve_unit.specs.Chunks.{chunks_of, parts}
-use Rattle.sve_table.specs.Tables.{item_of, table_of}
+use Rattle.sve_table.specs.Tables.{table_of}
 use Rattle.sve_index.specs.declared.source.FileElement.{FileElement}
 use Rattle.sve_text.specs.Rows.{Row}
 use Rattle.sve_front.specs.declared.unit.Unit.{Unit}
@@ -46,10 +46,6 @@ itself name = name
 pub record AreUnits (rows : List Row) (units : List Unit) : Type 0 where
   pub names : map file_of units ≡ table_of itself (unit_names rows)
   pub each : AreUnitsOf rows units
-
--- one of them is the file of this name
-abbrev pub Has : List Unit → List ℕ → Type 0
-Has units name = is_some (item_of file_of name units) ≡ true
 
 -- the chunks of a unit are those of its tokens, whose numbers have 32 bits
 pub record IsCut (u : Unit) : Type 0 where

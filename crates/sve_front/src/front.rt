@@ -1,77 +1,41 @@
-//! What the front end finds at the files of a revision.
+//! The tops of the design that the files of a revision are.
 ghost use Rattle.std.specs.Prelude.{◌≡◌, IfOk};
-ghost use Rattle.std.specs.List.{flat_map, AllByRecursion};
 ghost use Rattle.sve_front.specs.Units.{unit_names};
-ghost use Rattle.sve_front.specs.Diagnostics.{unit_diags};
 ghost use Rattle.sve_front.specs.Elements.{AreElementsOf};
-ghost use Rattle.sve_front.specs.Readings.{AreUnitsOf, Has};
-ghost use Rattle.sve_front.specs.Fronts.{AreDiagnostics, AreInOrder, AreTops};
+ghost use Rattle.sve_front.specs.Fronts.{AreTops};
 
-use crate::placing::with_notes;
 use crate::reading::{Reading, read_units};
-use crate::unit::Unit;
 use std::alloc::Global;
 use sve_bytes::{List, Name, NoMemory};
-use sve_diag::Diag;
 use sve_index::{FileElement, index_of};
-use sve_table::Table;
 use sve_text::Files;
 
-/// What the front end finds at the files of a revision.
-#[derive(Drop)]
-pub struct Findings {
-    /// The names of the top modules, in file order and then text order (IEEE 1800-2017, 23.3.1).
-    pub tops: List<Name>,
-    /// The diagnostics of preprocessing, of the grammar and of the index, in their order, each once.
-    pub diags: List<Diag>,
-}
-
-/// The same diagnostics in order, each once.
-fn in_order(diags: Vec<Diag>) -> Result<List<Diag>, NoMemory>
-    ensures { IfOk result (λ ordered. AreInOrder diags.items ordered) }
-{
-    let mut ordered = diags;
-    ordered.sort()?;
-    ordered.dedup();
-    Ok(List::of(ordered))
-}
-
-/// What is found at units that were read, from their elements and from what there is to say of each unit.
-fn found(
+/// The tops among the elements of all units.
+fn tops_among(
     alloc: Global,
     files: &Files,
-    units: &Table<Unit>,
     elements: &[FileElement],
-    diags: Vec<Diag>,
-) -> Result<Findings, NoMemory>
-    requires elements { AreElementsOf files.now.rows (unit_names files.now.rows) elements.now }
-    requires diags { diags.items ≡ flat_map (unit_diags files.now.rows) (unit_names files.now.rows) }
-    requires units { AreUnitsOf files.now.rows units.now }
-    requires all { AllByRecursion (Has units.now) (unit_names files.now.rows) }
-    ensures tops { IfOk result (λ f. AreTops files.now.rows f.tops) }
-    ensures diags { IfOk result (λ f. AreDiagnostics files.now.rows f.diags) }
+) -> Result<List<Name>, NoMemory>
+    requires { AreElementsOf files.now.rows (unit_names files.now.rows) elements.now }
+    ensures { IfOk result (λ tops. AreTops files.now.rows tops) }
 {
+    let _ = files;
     let index = index_of(alloc, elements)?;
-    let told = with_notes(files, units, index.diags, diags)?;
-    let ordered = in_order(told)?;
-    Ok(Findings {
-        tops: index.tops,
-        diags: ordered,
-    })
+    Ok(index.tops)
 }
 
-/// Reads all units of a revision, each once, and finds the tops and the diagnostics.
+/// The names of the top modules, in file order and then text order (IEEE 1800-2017, 23.3.1). It reads all units of the revision, each
+/// once.
 ///
 /// # Errors
 /// For want of memory alone.
-pub fn analyze(alloc: Global, files: &Files) -> Result<Findings, NoMemory>
-    ensures tops { IfOk result (λ f. AreTops files.now.rows f.tops) }
-    ensures diags { IfOk result (λ f. AreDiagnostics files.now.rows f.diags) }
+pub fn tops(alloc: Global, files: &Files) -> Result<List<Name>, NoMemory>
+    ensures { IfOk result (λ tops. AreTops files.now.rows tops) }
 {
     let Reading {
-        units,
+        units: _,
         elements,
-        diags,
+        diags: _,
     } = read_units(alloc, files)?;
-    found(alloc, files, &units, &elements, diags)
+    tops_among(alloc, files, &elements)
 }

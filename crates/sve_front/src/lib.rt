@@ -11,7 +11,7 @@ mod reading;
 mod unit;
 
 pub use expanding::expansion;
-pub use front::{Findings, analyze};
+pub use front::tops;
 pub use placing::{net_type_at, token_place};
 pub use reading::{Reading, read_units};
 pub use unit::Unit;

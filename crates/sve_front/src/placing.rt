@@ -1,15 +1,12 @@
 //! What stands at the tokens of units.
-ghost use Rattle.std.specs.Prelude.{◌≡◌, ◌++◌, map, IfOk, OnOk};
-ghost use Rattle.std.specs.List.{AllByRecursion};
-ghost use Rattle.sve_front.specs.Diagnostics.{note_diag};
+ghost use Rattle.std.specs.Prelude.{◌≡◌, IfOk};
 ghost use Rattle.sve_front.specs.Places.{net_type_in, token_place_in};
-ghost use Rattle.sve_front.specs.Readings.{AreCut, AreUnitsOf, Has};
+ghost use Rattle.sve_front.specs.Readings.{AreCut};
 
 use crate::unit::{Unit, chunk_tokens};
-use sve_bytes::{List, Name, NetType, NoMemory};
-use sve_diag::{Diag, Note, Place};
+use sve_bytes::{Name, NetType, NoMemory};
+use sve_diag::Place;
 use sve_table::Table;
-use sve_text::Files;
 use sve_unit::place_at;
 
 /// Where the token of a number stands in a chunk of a file, both counted from 0; behind the last token it is the end of the chunk,
@@ -48,57 +45,4 @@ pub fn net_type_at(units: &Table<Unit>, file: &Name, chunk: u32, token: u32) -> 
         Some(net) => *net,
         None => NetType::Wire,
     }
-}
-
-/// The diagnostic that a note is at the place of its token, on condition that its file is among the units.
-fn note_diag(files: &Files, units: &Table<Unit>, note: Note) -> Result<Diag, NoMemory>
-    requires units { AreUnitsOf files.now.rows units.now }
-    requires here { Has units.now note.file }
-    ensures { IfOk result (λ d. d ≡ note_diag files.now.rows note) }
-{
-    let _ = files;
-    let Note {
-        file,
-        chunk,
-        token,
-        code,
-        arg,
-    } = note;
-    let Some(place) = token_place(units, &file, chunk, token)? else {
-        unreachable!()
-    };
-    Ok(Diag { place, code, arg })
-}
-
-/// Adds the diagnostics of notes.
-fn add_notes(
-    files: &Files,
-    units: &Table<Unit>,
-    notes: Vec<Note>,
-    diags: &mut Vec<Diag>,
-) -> Result<(), NoMemory>
-    requires units { AreUnitsOf files.now.rows units.now }
-    requires here { AllByRecursion (λ note. Has units.now note.file) notes.items }
-    ensures { OnOk result (diags.new.items ≡ diags.old.items ++ map (note_diag files.now.rows) notes.items) }
-{
-    'notes: for note in notes {
-        diags.push(note_diag(files, units, note)?)?;
-    }
-    Ok(())
-}
-
-/// These diagnostics and those of notes.
-pub(crate) fn with_notes(
-    files: &Files,
-    units: &Table<Unit>,
-    notes: List<Note>,
-    diags: Vec<Diag>,
-) -> Result<Vec<Diag>, NoMemory>
-    requires units { AreUnitsOf files.now.rows units.now }
-    requires here { AllByRecursion (λ note. Has units.now note.file) notes }
-    ensures { IfOk result (λ all. all.items ≡ diags.items ++ map (note_diag files.now.rows) notes) }
-{
-    let mut all = diags;
-    add_notes(files, units, notes.into_vec(), &mut all)?;
-    Ok(all)
 }

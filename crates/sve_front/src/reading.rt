@@ -1,12 +1,12 @@
 //! Units are read from their texts to elements, each once.
 ghost use Rattle.std.specs.Prelude.{◌≡◌, ◌++◌, ◌<◌, ◌^◌, length, map, IfOk, OnOk};
-ghost use Rattle.std.specs.List.{flat_map, AllByRecursion};
+ghost use Rattle.std.specs.List.{flat_map};
 ghost use Rattle.sve_unit.specs.Chunks.{chunks_of, parts};
 ghost use Rattle.sve_front.specs.Units.{unit_tokens, unit_names};
 ghost use Rattle.sve_front.specs.Diagnostics.{chunk_diags, unit_diags};
 ghost use Rattle.sve_front.specs.Elements.{AreElements, AreElementsOf};
 ghost use Rattle.sve_front.specs.Trees.{AreTreesOf, IsTreeOf, tree_of};
-ghost use Rattle.sve_front.specs.Readings.{ReadsChunk, Adds, AreCut, AreUnits, Has, IsUnitOf};
+ghost use Rattle.sve_front.specs.Readings.{ReadsChunk, Adds, AreCut, AreUnits, IsUnitOf};
 
 use crate::cutting::{Cut, cut_of};
 use crate::expanding::expansion;
@@ -144,7 +144,6 @@ pub fn read_units(alloc: Global, files: &Files) -> Result<Reading, NoMemory>
     ensures diags { IfOk result (λ r. r.diags.items ≡ flat_map (unit_diags files.now.rows) (unit_names files.now.rows)) }
     ensures units { IfOk result (λ r. AreUnits files.now.rows r.units) }
     ensures cut { IfOk result (λ r. AreCut r.units) }
-    ensures all { IfOk result (λ r. AllByRecursion (Has r.units) (unit_names files.now.rows)) }
 {
     let names = unit_names(alloc, files)?;
     let mut units = Table::new(alloc);

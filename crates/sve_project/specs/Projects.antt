@@ -1,4 +1,5 @@
--- The project of a revision: its units and the index of their elements, and what follows from these (IEEE 1800-2017, 3.12.1 and 3.13).
+-- The project of a revision: its units, what there is to say of their texts, the index of their elements, and what follows from these (IEEE 1800-2017,
+-- 3.12.1 and 3.13).
 use Rattle.std.specs.Global.{Global}
 use Rattle.std.specs.Prelude.{◌≡◌, ℕ, List, [], ◌∷◌, Option, Some, None, refl}
 use Rattle.std.specs.Coded.{Coded, code_by, coded×, coded_list}
@@ -6,6 +7,8 @@ use Rattle.std.specs.List.{flat_map, slice_get}
 use Rattle.std.specs.Option.{option_and_then}
 use Rattle.std.specs.declared.sync.Arc.{Arc}
 use Rattle.sve_bytes.specs.declared.net_type.NetType.{NetType}
+use Rattle.sve_diag.specs.declared.diag.Diag.{Diag}
+use Rattle.sve_diag.specs.contracts.diag.Diag as diag
 use Rattle.sve_table.specs.Tables.{item_of}
 use Rattle.sve_tree.specs.declared.element.Element.{Element}
 use Rattle.sve_index.specs.declared.def.Def.{Def}
@@ -18,6 +21,7 @@ use Rattle.sve_known.specs.Packages.{Known}
 use Rattle.sve_front.specs.declared.unit.Unit.{Unit}
 use Rattle.sve_front.specs.contracts.unit.Unit as unit
 use Rattle.sve_front.specs.Units.{unit_names}
+use Rattle.sve_front.specs.Diagnostics.{unit_diags}
 use Rattle.sve_front.specs.Elements.{AreElementsOf}
 use Rattle.sve_front.specs.Trees.{tree_of}
 use Rattle.sve_front.specs.Readings.{AreCut, AreUnits, file_of}
@@ -27,11 +31,13 @@ use Rattle.sve_packages.specs.Packages.{PackageText, packages_of}
 -- what is known of a revision, from which all else follows
 pub record ProjectValue : Type 0 where
   pub units : List Unit
+  pub diags : List Diag
   pub index : Index
 
--- projects are told apart by both
+-- projects are told apart by all of these
 abbrev pub project_code : Coded ProjectValue
-project_code = code_by (List Unit × Index) (coded× (coded_list unit.the_row.coded) index.the_row.coded) (λ p. (p.units, p.index)) (λ q. record { units = q.0; index = q.1 }) (λ _. refl)
+project_code = code_by (List Unit × (List Diag × Index)) (coded× (coded_list unit.the_row.coded) (coded× (coded_list diag.the_row.coded) index.the_row.coded))
+    (λ p. (p.units, (p.diags, p.index))) (λ q. record { units = q.0; diags = q.1.0; index = q.1.1 }) (λ _. refl)
 
 -- ---- what stands where in the units
 
@@ -83,7 +89,8 @@ known_in p = packages_in p.units p.index
 
 -- ---- of which files a project is
 
--- its units are those of the files, and its index is that of their elements
+-- its units are those of the files, with what there is to say of each, and its index is that of their elements
 pub record IsProjectOf (rows : List Row) (p : ProjectValue) : Type 0 where
   pub units : AreUnits rows p.units
+  pub diags : p.diags ≡ flat_map (unit_diags rows) (unit_names rows)
   pub index : (sources : List FileElement) × AreElementsOf rows (unit_names rows) sources × (p.index ≡ index_of sources)

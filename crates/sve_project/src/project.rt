@@ -1,10 +1,12 @@
 ghost use Rattle.std.specs.Prelude.{◌≡◌, IfOk, option_map};
 ghost use Rattle.std.specs.Arc.{arc_value};
+ghost use Rattle.std.specs.List.{flat_map};
 ghost use Rattle.sve_table.specs.Tables.{item_of};
 ghost use Rattle.sve_known.specs.Packages.{package_name};
+ghost use Rattle.sve_front.specs.Diagnostics.{unit_diags};
 ghost use Rattle.sve_front.specs.Elements.{AreElementsOf};
 ghost use Rattle.sve_front.specs.Places.{token_place_in};
-ghost use Rattle.sve_front.specs.Readings.{AreUnits};
+ghost use Rattle.sve_front.specs.Readings.{AreCut, AreUnits};
 ghost use Rattle.sve_front.specs.Units.{unit_names};
 ghost use Rattle.sve_packages.specs.Packages.{found_of};
 ghost use Rattle.sve_project.specs.Projects.{IsProjectOf, known_in, net_in, tree_in, unit_in};
@@ -15,7 +17,7 @@ use std::alloc::Global;
 use std::marker::Model;
 use std::sync::Arc;
 use sve_bytes::{Name, NetType, NoMemory};
-use sve_diag::Place;
+use sve_diag::{Diag, Place};
 use sve_facts::Facts;
 use sve_front::{Reading, Unit, net_type_at, read_units, token_place};
 use sve_index::{FileElement, Index, index_of};
@@ -25,11 +27,12 @@ use sve_table::Table;
 use sve_text::Files;
 use sve_tree::Element;
 
-/// The units of a revision, the index of their elements, and the packages that the index names. A clause sees the units and the
-/// index; the packages follow from these.
+/// The units of a revision, what there is to say of their texts, the index of their elements, and the packages that the index names.
+/// A clause sees all but the packages, which follow from the units and the index.
 #[derive(Drop)]
 pub struct Project {
     units: Table<Unit>,
+    diags: Vec<Diag>,
     index: Arc<Index>,
     packages: KnownPackages,
 }
@@ -43,21 +46,23 @@ impl Model for Project {
 
     ghost coded = { project_code };
 
-    ghost view = { λ p. record { units = p.units; index = arc_value p.index } };
+    ghost view = { λ p. record { units = p.units; diags = p.diags.items; index = arc_value p.index } };
 
     ghost invariant = { λ p. IsWhole p.units (arc_value p.index) p.packages };
 }
 
-/// The project of units that were read, whose elements are these.
+/// The project of units that were read, whose elements are these, and what there is to say of their texts.
 #[tactic(auto, using(crate::proofs::Cuts::are_cut))]
 fn project_of(
     alloc: Global,
     files: &Files,
     units: Table<Unit>,
     elements: &[FileElement],
+    diags: Vec<Diag>,
 ) -> Result<Project, NoMemory>
     requires units { AreUnits files.now.rows units }
     requires elements { AreElementsOf files.now.rows (unit_names files.now.rows) elements.now }
+    requires diags { diags.items ≡ flat_map (unit_diags files.now.rows) (unit_names files.now.rows) }
     ensures { IfOk result (λ project. IsProjectOf files.now.rows project) }
 {
     let _ = files;
@@ -65,6 +70,7 @@ fn project_of(
     let packages = packages_in(alloc, &units, &index)?;
     Ok(Project {
         units,
+        diags,
         index: Arc::new(alloc, index)?,
         packages,
     })
@@ -82,9 +88,9 @@ impl Project {
         let Reading {
             units,
             elements,
-            diags: _,
+            diags,
         } = read_units(alloc, files)?;
-        project_of(alloc, files, units, &elements)
+        project_of(alloc, files, units, &elements, diags)
     }
 
     /// The unit of this file, where it is one. It takes no memory.
@@ -92,6 +98,22 @@ impl Project {
         ensures { option_map (λ unit. unit.now) result ≡ unit_in self.now file.now }
     {
         self.units.get(file)
+    }
+
+    /// The units, in file order, each cut into its chunks (3.12.1). It takes no memory.
+    pub fn units(&self) -> &Table<Unit>
+        ensures value { result.now ≡ self.now.units }
+        ensures cut { AreCut result.now }
+    {
+        &self.units
+    }
+
+    /// What there is to say of the texts of its units, in file order: of their expansions, and of the chunks that the grammar refuses
+    /// (clause 22 and Annex A). It takes no memory.
+    pub fn unit_diags(&self) -> &[Diag]
+        ensures { result.now ≡ self.now.diags }
+    {
+        self.diags.as_slice()
     }
 
     /// Where modules, interfaces and packages are defined, and the tops (3.13 and 23.3.1). It takes no memory.
@@ -140,6 +162,7 @@ impl Project {
     {
         tree_at(&self.units, file, chunk)
     }
+
     /// The net type that is in force at a token of a chunk of this file, both counted from 0 (22.8); `wire` where the file is no
     /// unit. It takes no memory.
     #[tactic(auto, unfolding(crate::specs::Projects::net_in))]
@@ -148,6 +171,7 @@ impl Project {
     {
         net_type_at(&self.units, file, chunk, token)
     }
+
     /// Where a token of a chunk of this file stands, both counted from 0; behind the last token it is the end of the chunk, and a
     /// file that is no unit has no places.
     ///

@@ -1,14 +1,10 @@
 -- What is found element by element at files whose rows stand in order is what is found by words.
-use Rattle.std.specs.Prelude.{ℕ, ◌≡◌, ◌++◌, Bool, cond, List, [], ◌∷◌, map, Option, Some, None, is_some, option_and_then, refl}
+use Rattle.std.specs.Prelude.{ℕ, ◌≡◌, ◌++◌, Bool, cond, List, [], ◌∷◌, Option, Some, None, is_some, option_and_then, refl}
 use Rattle.std.proofs.Common.{sym, ap, ◌∙◌, subst, append_assoc}
 use Rattle.std.specs.List.{filter, flat_map}
 use Rattle.std.specs.Cmp.{tied_itself}
 use Rattle.std.specs.Cmp.Lexicographic.{nat_list_cmp_total}
-use Rattle.std.specs.Ordering.{eq_by_cmp}
 use Rattle.std.specs.declared.cmp.Ordering.TheVariants.{Less}
-use Rattle.sve_diag.specs.declared.diag.Diag.{Diag}
-use Rattle.sve_diag.specs.DiagOrder.{diag_cmp, diag_total}
-use Rattle.sve_diag.proofs.DiagsAreExact.{diags_exact}
 use Rattle.sve_text.specs.Rows.{Row, is_there, names_in, name_cmp, AllAfter, IsInOrder}
 use Rattle.sve_text.proofs.Order.{row_of_middle}
 use Rattle.sve_index.specs.declared.source.FileElement.{FileElement}
@@ -16,17 +12,15 @@ use Rattle.sve_index.specs.declared.whole.Index.{Index}
 use Rattle.sve_index.specs.Whole.{index_of}
 use Rattle.sve_front.specs.Units.{is_unit_name, unit_names}
 use Rattle.sve_front.specs.Elements.{AreElementsOf}
-use Rattle.sve_front.specs.Diagnostics.{unit_diags, note_diag, diags_of}
-use Rattle.sve_front.specs.Fronts.{AreTops, AreDiagnostics}
+use Rattle.sve_front.specs.Fronts.{AreTops}
 use Rattle.sve_ordered.specs.Ordered.{with_one, ordered}
-use Rattle.sve_ordered.proofs.Rising.{is_ordered}
 use Rattle.sve_gist.specs.Index.{index_of_gists}
 use Rattle.sve_gist.proofs.Same.{same_index}
 use Rattle.sve_key.specs.Parts.{names_there}
 use Rattle.sve_make.specs.AtFiles.{units_at}
 use Rattle.sve_make.specs.IndexAt.{unit_gists}
 use Rattle.sve_make.proofs.FrontAt.{units_gists}
-use Rattle.sve_query.specs.AnswersAt.{index_at, diags_at}
+use Rattle.sve_query.specs.AnswersAt.{index_at}
 
 -- ---- the names that are there
 
@@ -82,7 +76,7 @@ names_are rows s = ap (ordered name_cmp) (all_there [] rows s) ∙ rising_is (na
 units_are : (rows : List Row) → IsInOrder rows → unit_names rows ≡ units_at rows
 units_are rows s = ap (filter is_unit_name) (sym (names_are rows s))
 
--- ---- the index, the tops and the diagnostics
+-- ---- the index and the tops
 
 index_is : (rows : List Row) → IsInOrder rows → (sources : List FileElement) → AreElementsOf rows (unit_names rows) sources → index_of sources ≡ index_at rows
 index_is rows s sources are =
@@ -91,8 +85,3 @@ index_is rows s sources are =
 
 pub tops_are : (rows : List Row) → IsInOrder rows → (tops : List (List ℕ)) → AreTops rows tops → tops ≡ (index_at rows).tops
 tops_are rows s tops are = are.tops_are ∙ ap (λ (index : Index). index.tops) (index_is rows s are.sources are.elements)
-
-pub diags_are : (rows : List Row) → IsInOrder rows → (diags : List Diag) → AreDiagnostics rows diags → diags ≡ diags_at rows
-diags_are rows s diags are =
-    is_ordered diag_cmp diag_total diags_exact (eq_by_cmp diag_cmp) (λ x y. refl) (diags_of rows are.sources) are.diags_are.sorted diags are.diags_are.same are.diags_are.order are.diags_are.once
-    ∙ (λ i. ordered diag_cmp (flat_map (unit_diags rows) (units_are rows s i) ++ map (note_diag rows) (index_is rows s are.sources are.elements i).diags))

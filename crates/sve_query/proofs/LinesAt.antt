@@ -10,7 +10,7 @@ use Rattle.sve_text.specs.Rows.{text_of, stamp_of}
 use Rattle.sve_index.specs.declared.whole.Index.{Index}
 use Rattle.sve_front.specs.Expansions.{told_by, state_in}
 use Rattle.sve_listing.specs.Files.{none, text_lines, expanded_lines}
-use Rattle.sve_listing.specs.Lists.{tops_lines, diags_lines_of}
+use Rattle.sve_listing.specs.Lists.{tops_lines}
 use Rattle.sve_command.specs.declared.commands.Query.{Query}
 use Rattle.sve_command.specs.declared.commands.Query.TheVariants as asks
 use Rattle.sve_store.specs.declared.answer.Answer.{Answer}
@@ -31,7 +31,7 @@ use Rattle.sve_gathered.proofs.AtFiles.{texts_are, names_are}
 use Rattle.sve_query.specs.Answering.{answers_by}
 use Rattle.sve_query.specs.AnswersAt.{Answers, IsElaborated}
 use Rattle.sve_query.proofs.Elaborated.{of_the_same}
-use Rattle.sve_query.proofs.SameFiles.{texts_same, index_same, diags_same}
+use Rattle.sve_query.proofs.SameFiles.{index_same}
 
 module _ (files : FilesValue) (table : Key → ℕ → Value) (is : IsTable key_cmp (values_of (given_of files)) make_of table) where
   text_is : (name : List ℕ) → text_in_value (table (keys.Text name) 0) ≡ record { text = text_of files.rows name; stamp = stamp_of files.rows name }
@@ -49,15 +49,12 @@ module _ (files : FilesValue) (table : Key → ℕ → Value) (is : IsTable key_
       let one : TextValue → Told → Answer = λ t told. Done (if is_file_name_of name && is_some t.text then expanded_lines (bytes_of (state_in (expand told fresh None name)).out) else none) in
       e ∙ (λ i. one (text_is name i) (told_is i))
   may_be asks.Tops budget answer e = e ∙ ap (λ (index : Index). Done (tops_lines index.tops)) (index_same (rows_by table) files.rows (texts_are files table is) (names_are files table is))
-  may_be asks.Diagnostics budget answer e =
-      let texts = texts_are files table is in
-      let names = names_are files table is in
-      e ∙ (λ i. Done (diags_lines_of (texts_same (rows_by table) files.rows texts names i) (diags_same (rows_by table) files.rows texts names i)))
   may_be (asks.Instance path) budget answer e = same (asks.Instance path) budget answer e
   may_be asks.Tree budget answer e = same asks.Tree budget answer e
   may_be (asks.TypeOf path name) budget answer e = same (asks.TypeOf path name) budget answer e
   may_be (asks.Param path name) budget answer e = same (asks.Param path name) budget answer e
   may_be (asks.Resolve path name) budget answer e = same (asks.Resolve path name) budget answer e
+  may_be asks.Diagnostics budget answer e = same asks.Diagnostics budget answer e
 
 pub answers_at : (files : FilesValue) (query : Query) (budget : ℕ) (answer : Answer) → IsAnswer key_cmp (values_of (given_of files)) make_of answers_by query budget answer → Answers files.rows query budget answer
 answers_at files query budget answer (table, is, may) = may_be files table is query budget answer may

@@ -10,9 +10,9 @@ pub one_answer : (rows : List Row) (query : Query) → IsTrue (has_one_answer qu
 one_answer rows (asks.File name) one budget other answer another is is' = is ∙ sym is'
 one_answer rows (asks.Expand name) one budget other answer another is is' = is ∙ sym is'
 one_answer rows asks.Tops one budget other answer another is is' = is ∙ sym is'
-one_answer rows asks.Diagnostics one budget other answer another is is' = is ∙ sym is'
 one_answer rows (asks.Instance path) one budget other answer another is is' = absurd (cc)
 one_answer rows asks.Tree one budget other answer another is is' = absurd (cc)
 one_answer rows (asks.TypeOf path name) one budget other answer another is is' = absurd (cc)
 one_answer rows (asks.Param path name) one budget other answer another is is' = absurd (cc)
 one_answer rows (asks.Resolve path name) one budget other answer another is is' = absurd (cc)
+one_answer rows asks.Diagnostics one budget other answer another is is' = absurd (cc)

@@ -1,37 +1,25 @@
--- Tops and diagnostics depend on nothing but the names that are there and their texts.
-use Rattle.std.specs.Prelude.{ℕ, zero, suc, ◌+◌, ◌≡◌, List, [], ◌++◌, length, map, Some, None, unwrap_or, refl}
+-- Tops depend on nothing but the names that are there and their texts.
+use Rattle.std.specs.Prelude.{ℕ, zero, suc, ◌+◌, ◌≡◌, List, ◌++◌, length, Some, None, refl}
 use Rattle.std.proofs.Common.{ap, ◌∙◌}
-use Rattle.std.specs.List.{filter, flat_map, slice_get, slice_index_or}
-use Rattle.sve_diag.specs.declared.diag.Diag.{Diag}
-use Rattle.sve_diag.specs.declared.diag.Note.{Note}
-use Rattle.sve_diag.specs.DiagOrder.{diag_cmp}
+use Rattle.std.specs.List.{filter, flat_map, slice_get}
 use Rattle.sve_token.specs.declared.token.Token.{Token}
 use Rattle.sve_lex.specs.Tokens.{tokens}
 use Rattle.sve_prep.specs.Told.{Told}
 use Rattle.sve_prep.specs.Expansion.{expand, fresh}
-use Rattle.sve_unit.specs.Chunks.{chunks_of, parts}
-use Rattle.sve_unit.specs.Stops.{place_at}
+use Rattle.sve_unit.specs.Chunks.{chunks_of}
 use Rattle.sve_text.specs.Rows.{Row, text_of}
-use Rattle.sve_front.specs.Expansions.{told_by, state_in, written}
+use Rattle.sve_front.specs.Expansions.{told_by, state_in}
 use Rattle.sve_front.specs.Units.{is_unit_name}
-use Rattle.sve_front.specs.Diagnostics.{chunk_diags, unit_diags, note_diag}
 use Rattle.sve_gist.specs.Index.{index_of_gists}
-use Rattle.sve_listing.specs.Lists.{file_text}
-use Rattle.sve_ordered.specs.Ordered.{ordered}
 use Rattle.sve_key.specs.Parts.{names_there}
 use Rattle.sve_make.specs.Make.{gists_in, reading_at}
 use Rattle.sve_make.specs.AtFiles.{tokens_at, chunks_at}
 use Rattle.sve_make.specs.IndexAt.{chunk_gist, chunk_gists, unit_gists}
-use Rattle.sve_query.specs.AnswersAt.{index_at, diags_at}
+use Rattle.sve_query.specs.AnswersAt.{index_at}
 
 module _ (a b : List Row) (texts : (name : List ℕ) → text_of a name ≡ text_of b name) (names : names_there a ≡ names_there b) where
   told_same : told_by a ≡ told_by b
   told_same = λ i name. Some (texts name i)
-
-  pub texts_same : file_text a ≡ file_text b
-  texts_same = λ i name. unwrap_or (texts name i) []
-
-  -- ---- the index
 
   tokens_same : (file : List ℕ) → tokens_at a file ≡ tokens_at b file
   tokens_same file = ap (λ (told : Told). tokens (state_in (expand told fresh None file)).out) told_same
@@ -49,22 +37,3 @@ module _ (a b : List Row) (texts : (name : List ℕ) → text_of a name ≡ text
 
   pub index_same : index_at a ≡ index_at b
   index_same = λ i. index_of_gists (flat_map (λ file. unit_same file i) (filter is_unit_name (names i)))
-
-  -- ---- the diagnostics
-
-  unit_diags_same : (name : List ℕ) → unit_diags a name ≡ unit_diags b name
-  unit_diags_same name =
-      let of : Told → List ℕ → List Diag = λ told text. (written (state_in (expand told fresh None name))).diags ++ flat_map (chunk_diags (record { file = name; offset = length text })) (parts (tokens (written (state_in (expand told fresh None name))).cells)) in
-      λ i. of (told_same i) (texts_same i name)
-
-  note_same : (note : Note) → note_diag a note ≡ note_diag b note
-  note_same note =
-      let of : Told → List ℕ → Diag = λ told text. record {
-        place = place_at (slice_index_or (parts (tokens (written (state_in (expand told fresh None note.file))).cells)) note.chunk []) note.token (record { file = note.file; offset = length text });
-        code = note.code;
-        arg = note.arg;
-      } in
-      λ i. of (told_same i) (texts_same i note.file)
-
-  pub diags_same : diags_at a ≡ diags_at b
-  diags_same = λ i. ordered diag_cmp (flat_map (λ name. unit_diags_same name i) (filter is_unit_name (names i)) ++ map (λ note. note_same note i) (index_same i).diags)

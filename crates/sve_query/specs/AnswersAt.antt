@@ -1,23 +1,18 @@
 -- What a query may be answered at some files (own).
-use Rattle.std.specs.Prelude.{ℕ, ◌≡◌, Bool, true, false, ◌&&◌, ◌++◌, is_some, List, map, if◌then◌else◌}
-use Rattle.std.specs.List.{flat_map}
+use Rattle.std.specs.Prelude.{ℕ, ◌≡◌, Bool, true, false, ◌&&◌, is_some, List, if◌then◌else◌}
 use Rattle.sve_bytes.specs.FileName.{is_file_name_of}
 use Rattle.sve_origin.specs.Origins.{values as bytes_of}
-use Rattle.sve_diag.specs.declared.diag.Diag.{Diag}
-use Rattle.sve_diag.specs.DiagOrder.{diag_cmp}
 use Rattle.sve_text.specs.Rows.{Row, IsInOrder, text_of, stamp_of}
 use Rattle.sve_index.specs.declared.whole.Index.{Index}
-use Rattle.sve_front.specs.Diagnostics.{unit_diags, note_diag}
 use Rattle.sve_listing.specs.Files.{none, text_lines, expanded_lines}
-use Rattle.sve_listing.specs.Lists.{tops_lines, diags_lines}
+use Rattle.sve_listing.specs.Lists.{tops_lines}
 use Rattle.sve_command.specs.declared.commands.Query.{Query}
-use Rattle.sve_command.specs.declared.commands.Query.TheVariants.{File, Expand, Tops, Diagnostics}
+use Rattle.sve_command.specs.declared.commands.Query.TheVariants.{File, Expand, Tops}
 use Rattle.sve_store.specs.declared.answer.Answer.{Answer}
 use Rattle.sve_store.specs.declared.answer.Answer.TheVariants.{Done}
 use Rattle.sve_gist.specs.Index.{index_of_gists}
-use Rattle.sve_ordered.specs.Ordered.{ordered}
 use Rattle.sve_key.specs.Parts.{names_there}
-use Rattle.sve_make.specs.AtFiles.{state_at, units_at}
+use Rattle.sve_make.specs.AtFiles.{state_at}
 use Rattle.sve_make.specs.IndexAt.{gists_at}
 use Rattle.sve_design_answers.specs.Queries.{IsDesignAnswer}
 
@@ -25,10 +20,6 @@ use Rattle.sve_design_answers.specs.Queries.{IsDesignAnswer}
 -- 1800-2017, 3.13 and 23.3.1)
 abbrev pub index_at : List Row → Index
 index_at rows = index_of_gists (gists_at rows)
-
--- all diagnostics: those of the expansions of its units, of the chunks that the grammar refuses, and of the index, in their order, each once
-abbrev pub diags_at : List Row → List Diag
-diags_at rows = ordered diag_cmp (flat_map (unit_diags rows) (units_at rows) ++ map (note_diag rows) (index_at rows).diags)
 
 -- the text of the file of this name; a name that no file may have is not there
 abbrev pub file_lines : List Row → List ℕ → List (List ℕ)
@@ -55,7 +46,6 @@ abbrev pub Answers : List Row → Query → ℕ → Answer → Type 0
 Answers rows (File name) budget answer = answer ≡ Done (file_lines rows name)
 Answers rows (Expand name) budget answer = answer ≡ Done (expand_lines rows name)
 Answers rows Tops budget answer = answer ≡ Done (tops_lines (index_at rows).tops)
-Answers rows Diagnostics budget answer = answer ≡ Done (diags_lines rows (diags_at rows))
 Answers rows query budget answer = IsElaborated rows query budget answer
 
 -- whether the query is answered from the texts of the files alone; then it has one answer at any files
@@ -63,5 +53,4 @@ abbrev pub has_one_answer : Query → Bool
 has_one_answer (File name) = true
 has_one_answer (Expand name) = true
 has_one_answer Tops = true
-has_one_answer Diagnostics = true
 has_one_answer query = false

@@ -5,7 +5,7 @@ ghost use Rattle.sve_kinds.specs.Passes.{Passes};
 ghost use Rattle.sve_query.specs.Answering.{IsAskedFor, answers_by};
 
 use crate::designs::{done, elaborated_answer};
-use crate::lists::{diagnostics_answer, tops_answer};
+use crate::lists::tops_answer;
 use std::alloc::Global;
 use sve_answer::{expand_answer, file_answer};
 use sve_command::Query;
@@ -42,14 +42,11 @@ pub(crate) fn answer_of<K: Keyed<Key = Key, Value = Value>, F: Fetch<K>>(
             let lines = tops_answer(alloc, from)?;
             Ok(done(alloc, lines)?)
         }
-        Query::Diagnostics => {
-            let lines = diagnostics_answer(alloc, from)?;
-            Ok(done(alloc, lines)?)
-        }
         Query::Instance { .. }
         | Query::Tree
         | Query::TypeOf { .. }
         | Query::Param { .. }
-        | Query::Resolve { .. } => elaborated_answer(alloc, from, query, budget),
+        | Query::Resolve { .. }
+        | Query::Diagnostics => elaborated_answer(alloc, from, query, budget),
     }
 }

@@ -1,19 +1,19 @@
-//! The tops and the diagnostics of files that were gathered.
+//! The tops of files that were gathered.
 ghost use Rattle.std.specs.Prelude.{◌≡◌, ℕ, IfOk, IfErr, OnOk};
 ghost use Rattle.sve_text.specs.Rows.{IsInOrder};
-ghost use Rattle.sve_listing.specs.Lists.{diags_lines, tops_lines};
+ghost use Rattle.sve_listing.specs.Lists.{tops_lines};
 ghost use Rattle.sve_store.specs.Told.{Follows, HasStopped};
 ghost use Rattle.sve_kinds.specs.Passes.{Passes};
 ghost use Rattle.sve_gathered.specs.Gathered.{IsInput, rows_by};
-ghost use Rattle.sve_query.specs.AnswersAt.{diags_at, index_at};
+ghost use Rattle.sve_query.specs.AnswersAt.{index_at};
 
 use std::alloc::Global;
 use sve_bytes::NoMemory;
-use sve_front::analyze;
+use sve_front::tops;
 use sve_gathered::gathered;
 use sve_io::Halt;
 use sve_key::{Key, Value};
-use sve_listing::{diags_lines, tops_lines};
+use sve_listing::tops_lines;
 use sve_report::Lines;
 use sve_store::{Fetch, Keyed};
 use sve_text::Files;
@@ -24,18 +24,7 @@ fn tops_of(alloc: Global, files: &Files) -> Result<Lines, NoMemory>
     requires { IsInOrder files.now.rows }
     ensures { IfOk result (λ lines. lines ≡ tops_lines (index_at files.now.rows).tops) }
 {
-    let found = analyze(alloc, files)?;
-    tops_lines(alloc, found.tops.items())
-}
-
-/// The lines of the diagnostics of these files.
-#[tactic(auto, using(crate::proofs::InOrder::diags_are))]
-fn diagnostics_of(alloc: Global, files: &Files) -> Result<Lines, NoMemory>
-    requires { IsInOrder files.now.rows }
-    ensures { IfOk result (λ lines. lines ≡ diags_lines files.now.rows (diags_at files.now.rows)) }
-{
-    let found = analyze(alloc, files)?;
-    diags_lines(alloc, files, found.diags.items())
+    tops_lines(alloc, tops(alloc, files)?.items())
 }
 
 /// The tops of the design, one a line (IEEE 1800-2017, 23.3.1).
@@ -53,21 +42,4 @@ pub(crate) fn tops_answer<K: Keyed<Key = Key, Value = Value>, F: Fetch<K>>(
 {
     let files = gathered(alloc, from)?;
     Ok(tops_of(alloc, &files)?)
-}
-
-/// The diagnostics of preprocessing, of the grammar and of the index, one a line.
-///
-/// # Errors
-/// The object stopped the call, can tell nothing of a key that is asked for, or there was no memory.
-pub(crate) fn diagnostics_answer<K: Keyed<Key = Key, Value = Value>, F: Fetch<K>>(
-    alloc: Global,
-    from: &mut F,
-) -> Result<Lines, Halt>
-    ensures passes { Passes F.tells F.keeps F.is_quiet (λ f. K.counted (F.kind f)) F.halted IsInput from.old from.new }
-    ensures answered { (table : Key → ℕ → Value) → Follows (λ v fuel. v) table (F.tells from.old) → IfOk result (λ lines. lines ≡ diags_lines (rows_by table) (diags_at (rows_by table))) }
-    ensures stopped { IfErr result (HasStopped (F.stops from.old) (F.stops from.new)) }
-    ensures went { OnOk result (F.stops from.new ≡ F.stops from.old) }
-{
-    let files = gathered(alloc, from)?;
-    Ok(diagnostics_of(alloc, &files)?)
 }

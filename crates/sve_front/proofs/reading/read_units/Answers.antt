@@ -1,13 +1,13 @@
-use Rattle.std.proofs.Common.{◌≡◌, ◌+◌, ◌<◌, ℕ, List, [], ◌∷◌, length, map, take, drop, sym, ap, subst, ◌∙◌, arith}
-use Rattle.std.specs.List.{flat_map, AllByRecursion}
+use Rattle.std.proofs.Common.{◌≡◌, ◌+◌, ◌<◌, ℕ, List, [], ◌∷◌, length, map, drop, sym, ap, subst, ◌∙◌, arith}
+use Rattle.std.specs.List.{flat_map}
 use Rattle.std.proofs.lemmas.List.{drop_all}
 use Rattle.sve_table.specs.Tables.{with_item, with_items, table_of}
 use Rattle.sve_front.specs.declared.unit.Unit.{Unit}
 use Rattle.sve_front.specs.Diagnostics.{unit_diags}
 use Rattle.sve_front.specs.Elements.{AreElementsOf}
-use Rattle.sve_front.specs.Readings.{AreUnitsOf, Has, file_of, itself}
+use Rattle.sve_front.specs.Readings.{AreUnitsOf, file_of, itself}
 use Rattle.sve_front.proofs.Names.{name_then}
-use Rattle.sve_front.proofs.Held.{are_cut, kept_next, names_go_on, units_after}
+use Rattle.sve_front.proofs.Held.{are_cut, names_go_on, units_after}
 use Rattle.sve_front.proofs.Additions.{ends, gives_on, units_go_on}
 use Rattle.sve_front.proofs.reading.read_units.Goals as goal
 
@@ -27,9 +27,6 @@ units-preserved c =
       names =
           subst (λ (us : List Unit). with_items itself (map file_of us) (drop (i + 1) names) ≡ table_of itself names) (sym table)
           (names_go_on names i name c.units.units c.in_ok-unit.unit (table_of itself names) here c.in_ok-unit.ensures.file c.units.invariant.names);
-      kept =
-          subst (λ (us : List Unit). AllByRecursion (Has us) (take (i + 1) names)) (sym table)
-          (kept_next c.units.units c.in_ok-unit.unit names i name within c.name-item.is c.in_ok-unit.ensures.file c.units.invariant.kept);
     }
 
 pub returns-clause-elements : goal.returns-clause-elements

@@ -1,10 +1,10 @@
--- What the units so far gave, then what the others give, is what all give; each of them is kept.
-use Rattle.std.proofs.Common.{◌≡◌, ◌++◌, [], map, take, drop}
-use Rattle.std.specs.List.{flat_map, AllByRecursion}
+-- What the units so far gave, then what the others give, is what all give.
+use Rattle.std.proofs.Common.{◌≡◌, ◌++◌, [], map, drop}
+use Rattle.std.specs.List.{flat_map}
 use Rattle.sve_front.specs.Diagnostics.{unit_diags}
 use Rattle.sve_front.specs.Elements.{AreElementsOf}
 use Rattle.sve_table.specs.Tables.{with_items, table_of}
-use Rattle.sve_front.specs.Readings.{AreUnitsOf, Has, file_of, itself}
+use Rattle.sve_front.specs.Readings.{AreUnitsOf, file_of, itself}
 use Rattle.sve_front.proofs.Additions.{GoesOn}
 use Rattle.sve_front.proofs.reading.read_units.Given as goal
 
@@ -14,5 +14,4 @@ invariant-units l = record {
   diags : l.diags.items ++ flat_map (unit_diags l.files.rows) (drop l.name-index l.name-items) ≡ flat_map (unit_diags l.files.rows) l.name-items;
   units : AreUnitsOf l.files.rows l.units;
   names : with_items itself (map file_of l.units) (drop l.name-index l.name-items) ≡ table_of itself l.name-items;
-  kept : AllByRecursion (Has l.units) (take l.name-index l.name-items);
 }

@@ -1,0 +1,67 @@
+//! All that there is to say of a design, in one list.
+ghost use Rattle.std.specs.Prelude.{◌≡◌, ◌++◌, IfOk, OnOk};
+ghost use Rattle.std.specs.List.{flat_map};
+ghost use Rattle.sve_front.specs.Readings.{AreCut};
+ghost use Rattle.sve_diagnostics.specs.Diagnostics.{all_diags, gathered, package_diags};
+
+use crate::placing::{add_all_told, add_notes};
+use crate::reading::Readings;
+use std::alloc::Global;
+use sve_bytes::{List, NoMemory};
+use sve_diag::{Diag, Note};
+use sve_front::Unit;
+use sve_known::Known;
+use sve_ordered::ordered;
+use sve_table::Table;
+
+/// Copies of these diagnostics.
+fn copies(alloc: Global, told: &[Diag]) -> Result<Vec<Diag>, NoMemory>
+    ensures { IfOk result (λ diags. diags.items ≡ told.now) }
+{
+    let mut diags = Vec::new(alloc);
+    'told: for diag in told {
+        diags.push(diag.copy()?)?;
+    }
+    Ok(diags)
+}
+
+/// Adds what there is to say of each package.
+#[tactic(auto, using(crate::proofs::Packages::one_more, crate::proofs::Packages::none_left))]
+fn add_packages(
+    units: &Table<Unit>,
+    packages: &Table<Known>,
+    diags: &mut Vec<Diag>,
+) -> Result<(), NoMemory>
+    requires { AreCut units.now }
+    ensures { OnOk result (diags.new.items ≡ diags.old.items ++ flat_map (package_diags units.now) packages.now) }
+{
+    'packages: for place in 0..packages.len() {
+        add_notes(units, packages.at(place).facts().notes.items(), diags)?;
+    }
+    Ok(())
+}
+
+/// What there is to say of the texts, of the index and of the packages, and these notes of the instances.
+#[tactic(auto, unfolding(crate::specs::Diagnostics::gathered))]
+fn gathered(alloc: Global, read: Readings<'_>, notes: &[Note]) -> Result<Vec<Diag>, NoMemory>
+    requires { AreCut read.units.now }
+    ensures { IfOk result (λ diags. diags.items ≡ gathered read.entry.units.now read.entry.texts.now read.entry.index.now read.entry.packages.now notes.now) }
+{
+    let mut diags = copies(alloc, read.texts)?;
+    add_notes(read.units, read.index, &mut diags)?;
+    add_packages(read.units, read.packages, &mut diags)?;
+    add_all_told(read.units, notes, &mut diags)?;
+    Ok(diags)
+}
+
+/// The same in order, each once.
+pub(crate) fn all_diags(
+    alloc: Global,
+    read: Readings<'_>,
+    notes: &[Note],
+) -> Result<List<Diag>, NoMemory>
+    requires { AreCut read.units.now }
+    ensures { IfOk result (λ diags. diags ≡ all_diags read.entry.units.now read.entry.texts.now read.entry.index.now read.entry.packages.now notes.now) }
+{
+    ordered(gathered(alloc, read, notes)?)
+}
