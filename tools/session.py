@@ -73,7 +73,40 @@ MEANINGS: Dict[str, str] = {
     "S02": "this cannot stand here, or is outside the subset of SystemVerilog",
     "S03": "what begins here is nested more than 512 deep",
     "S04": "the label behind this end word is not the name of what ends",
+    "N01": "nothing declares this name in front of its use",
+    "N02": "this name is declared in its scope already; the first declaration counts",
     "N03": "this name is defined already; the first definition counts",
+    "N04": "this package is not there",
+    "N05": "the package does not declare this name",
+    "N06": "two packages have this name, of which all names are imported here",
+    "N07": "this name is imported here and declared, or imported from two packages",
+    "N08": "this package needs itself in the end, or a package that does; it is taken as one without names",
+    "N09": "this module or interface is not there",
+    "N11": "what this name stands for cannot stand here",
+    "C01": "this is not a constant, or none that is evaluated",
+    "C02": "a number has the size 0",
+    "C03": "this constant has more than 128 bits, or is a number without a size above 2147483647",
+    "C04": "a number without a size stands in a concatenation",
+    "C05": "this replication count is negative, unknown, or 0 where nothing is left",
+    "C06": "this dimension is unknown, below 1 or too large; it is left out",
+    "C07": "this string is too long for its place",
+    "C08": "this name of an enumeration has the value of an earlier one",
+    "C09": "this name of an enumeration has no value, since the one before it has unknown bits",
+    "C10": "the enumeration cannot hold this value",
+    "E01": "there is no such parameter to override",
+    "E02": "this parameter is local, and cannot be overridden",
+    "E03": "there are more overrides than parameters",
+    "E04": "overrides by name and by order stand in one list",
+    "E05": "this parameter has no value in the instance",
+    "E06": "this cannot be a string, or cannot have unpacked dimensions",
+    "E07": "there is no such port, or it is connected already",
+    "E08": "there are more connections than ports, or they are by name and by order in one list",
+    "E09": "nothing of this port's name and of an equivalent type is declared here",
+    "E10": "this interface port is not connected to its interface",
+    "E14": "the genvar of this loop comes to an unknown value, or again to the same one; the loop makes no block",
+    "E15": "generate blocks are nested more than 32 deep",
+    "E16": "instances are nested more than 64 deep",
+    "E17": "the design says itself that it is wrong",
 }
 
 Edit = Dict[str, Union[str, int]]
@@ -309,6 +342,8 @@ def answers_of(lines: Sequence[str]) -> List[List[str]]:
             at += int(words[3])
         elif words[1] == "refused":
             raise Failure(f"the program refused a change: {' '.join(words[2:])}")
+        elif words[1] == "spent":
+            raise Failure(f"an answer would cost more than its budget of {int(words[3]):,}")
     return answers
 
 
