@@ -60,6 +60,10 @@ module _ (ws : List Word) where
   abbrev pub gathered_in : List Heading → List Item → Gathered
   gathered_in headings items = fold with_item_name (fold with_heading (record { announced = []; names = [] }) headings) (names_of items)
 
+-- all names that the text declares
+abbrev pub names_declared : List Word → List Heading → List Item → List (List ℕ)
+names_declared ws headings items = (gathered_in ws headings items).names
+
 -- the names of the blocks without a label, for each generate construct of the scope, where these names are declared in it
 abbrev pub unnamed_in : List (List ℕ) → List Item → List (List ℕ)
 unnamed_in names items = names_from (is_taken itself names) 0 (sum_by constructs items)

@@ -3,7 +3,7 @@ ghost use Rattle.std.specs.List.{fold};
 ghost use Rattle.sve_item_names.specs.Items.{names_of};
 ghost use Rattle.sve_scope.specs.Scopes.{itself};
 ghost use Rattle.sve_table.specs.Tables.{with_item};
-ghost use Rattle.sve_ahead.specs.Ahead.{ahead_in, ahead_of, first_token, gathered_in, is_ahead, is_whole, name_token, unnamed_in, with_announced, with_heading, with_item_name, with_name, with_name_if};
+ghost use Rattle.sve_ahead.specs.Ahead.{ahead_in, ahead_of, first_token, gathered_in, is_ahead, is_whole, name_token, names_declared, unnamed_in, with_announced, with_heading, with_item_name, with_name, with_name_if};
 
 use std::alloc::Global;
 use sve_bytes::{List, Name, NoMemory};
@@ -197,6 +197,26 @@ fn gather(
     };
     let header = of_headings(words, headings, nothing)?;
     of_items(words, &names, header)
+}
+
+/// The names that the text of a scope declares, in the order of the text (IEEE 1800-2017, 23.9): those of the header of a module or an
+/// interface and those of items, with the labels of generate blocks, selected or not. The words are those of the chunk of the text.
+///
+/// # Errors
+/// For want of memory alone.
+pub fn names_declared(
+    alloc: Global,
+    words: &[Word],
+    headings: &[Heading],
+    items: &[Item],
+) -> Result<Table<Name>, NoMemory>
+    ensures { IfOk result (λ names. names ≡ names_declared words.now headings.now items.now) }
+{
+    let Gathered {
+        announced: _,
+        names,
+    } = gather(alloc, words, headings, items)?;
+    Ok(names)
 }
 
 /// What is known of a scope by its names and its items.

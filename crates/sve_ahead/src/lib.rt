@@ -4,4 +4,4 @@
 
 mod gathering;
 
-pub use gathering::{Ahead, Announced, first_token, seen_ahead};
+pub use gathering::{Ahead, Announced, first_token, names_declared, seen_ahead};

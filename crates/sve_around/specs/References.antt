@@ -5,7 +5,7 @@ use Rattle.sve_tree.specs.declared.word.ScopedName.{ScopedName}
 use Rattle.sve_tree.specs.declared.expression.Postfix.{Postfix}
 use Rattle.sve_tree.specs.declared.expression.Expr.{Expr, items-the_row-Postfix}
 use Rattle.sve_tree.specs.declared.expression.Expr.TheVariants as is_expr
-use Rattle.sve_use.specs.Use.{is_member}
+use Rattle.sve_use.specs.Use.{first_member, is_member}
 
 -- nothing is applied but perhaps one member
 abbrev pub is_reference : List Postfix → Bool
@@ -26,3 +26,11 @@ token_if name postfixes = if is_reference postfixes then plain_token name else N
 unfoldable pub reference_of : Expr → Option ℕ
 reference_of (is_expr.Name' name _ postfixes) = token_if name (items-the_row-Postfix _ postfixes)
 reference_of e = None
+
+-- the member behind the dot
+abbrev pub member_if : List Postfix → Option ℕ
+member_if postfixes = if is_reference postfixes then first_member postfixes else None
+
+unfoldable pub member_behind : Expr → Option ℕ
+member_behind (is_expr.Name' name _ postfixes) = member_if (items-the_row-Postfix _ postfixes)
+member_behind e = None

@@ -31,7 +31,7 @@ stands_by interface (is_what.Parameter c) = constant_stands c
 stands_by interface (is_what.LocalParameter c) = constant_stands c
 stands_by interface (is_what.EnumName c) = constant_stands c
 stands_by interface is_what.Instance = face_or_other interface
-stands_by interface (is_what.InterfacePort face) = faced face.interface
+stands_by interface (is_what.InterfacePort face) = faced face.name.interface
 stands_by interface what = other
 
 abbrev pub stands_of : Result What Fault → Stands

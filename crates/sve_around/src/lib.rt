@@ -7,5 +7,6 @@ mod references;
 mod surroundings;
 mod things;
 
+pub use references::{member_behind, reference_of};
 pub use surroundings::Surroundings;
 pub use things::Instances;

@@ -1,9 +1,10 @@
 //! Expressions that may stand for an interface.
 ghost use Rattle.std.specs.Prelude.{◌≡◌};
 ghost use Rattle.sve_use.specs.Use.{is_member};
-ghost use Rattle.sve_around.specs.References.{is_reference, plain_token, reference_of, token_if};
+ghost use Rattle.sve_around.specs.References.{is_reference, member_behind, member_if, plain_token, reference_of, token_if};
 
 use sve_tree::{Expr, Postfix, ScopedName, Select};
+use sve_use::first_member;
 
 /// Whether what is applied to a name is a member.
 fn is_member(postfix: &Postfix) -> bool
@@ -52,13 +53,36 @@ fn token_if(name: ScopedName, postfixes: &[Postfix]) -> Option<u32>
     }
 }
 
-/// The token of the name that an expression is, by itself or with a modport behind a dot (IEEE 1800-2017, 25.5).
+/// The token of the name that an expression is, by itself or with one member behind a dot, which may be a modport (IEEE 1800-2017, 25.5). It
+/// takes no memory.
 #[tactic(auto, using(crate::proofs::Rows::of_name), unfolding(crate::specs::References::reference_of))]
-pub(crate) fn reference_of(expr: &Expr) -> Option<u32>
+pub fn reference_of(expr: &Expr) -> Option<u32>
     ensures { result ≡ reference_of expr.now }
 {
     match expr {
         Expr::Name { name, postfixes } => token_if(*name, postfixes),
+        _ => None,
+    }
+}
+
+/// The token of the one member that is applied to a name, where nothing else is.
+fn member_if(postfixes: &[Postfix]) -> Option<u32>
+    ensures { result ≡ member_if postfixes.now }
+{
+    if is_reference(postfixes) {
+        first_member(postfixes)
+    } else {
+        None
+    }
+}
+
+/// The token of the member behind the dot, where an expression is a name with one member. It takes no memory.
+#[tactic(auto, using(crate::proofs::Rows::member_of_name), unfolding(crate::specs::References::member_behind))]
+pub fn member_behind(expr: &Expr) -> Option<u32>
+    ensures { result ≡ member_behind expr.now }
+{
+    match expr {
+        Expr::Name { name: _, postfixes } => member_if(postfixes),
         _ => None,
     }
 }

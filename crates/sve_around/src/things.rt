@@ -12,15 +12,22 @@ use sve_table::Table;
 
 /// Which instances are those of interfaces. A scope says of an instance that it is one, and not of what.
 pub trait Instances {
-    ghost use Rattle.std.specs.Prelude.{◌≡◌, List, Option, option_map, ℕ};
+    ghost use Rattle.std.specs.Prelude.{◌≡◌, Bool, List, Option, option_map, ℕ};
     ghost use Rattle.sve_scope.specs.declared.declared.Declared.{Declared};
 
     // The interface of each declared instance, where it is that of one.
     ghost interfaces: { Self → Declared → Option (List ℕ) };
 
+    // Whether that interface has a modport of a name.
+    ghost modports: { Self → Declared → List ℕ → Bool };
+
     /// The interface of a declared instance, where it is one of an interface (IEEE 1800-2017, 25.3).
     fn interface(&self, declared: &Declared) -> Option<&Name>
         ensures { option_map (λ n. n.now) result ≡ interfaces self.now declared.now };
+
+    /// Whether the interface of which something declared is an instance has a modport of this name (25.5).
+    fn has_modport(&self, declared: &Declared, modport: &Name) -> bool
+        ensures { result ≡ modports self.now declared.now modport.now };
 }
 
 /// A constant is a thing of its type, where that is known.
@@ -54,7 +61,7 @@ fn thing_by<'a>(interface: Option<&'a Name>, what: &'a What) -> Thing<'a>
         What::LocalParameter(constant) => constant_thing(constant),
         What::EnumName(constant) => constant_thing(constant),
         What::Instance => instance_thing(interface),
-        What::InterfacePort(face) => Thing::Interface(&face.interface),
+        What::InterfacePort(face) => Thing::Interface(&face.name.interface),
         What::Genvar => Thing::Other,
         What::Function(_) => Thing::Other,
         What::TypeName(_) => Thing::Other,

@@ -23,7 +23,7 @@ use Rattle.sve_tree.specs.declared.item.CaseGenerateItem.{CaseGenerateItem}
 use Rattle.sve_tree.specs.declared.item.Item.TheVariants as is_item
 use Rattle.sve_tree.specs.declared.item.GenerateBlock.TheVariants as is_generate_block
 use Rattle.sve_tree.specs.declared.item.CaseGenerateItem.TheVariants as is_case_generate_item
-use Rattle.sve_spec.specs.Specialization.{Specialization}
+use Rattle.sve_spec.specs.declared.spec.Spec.{Spec}
 use Rattle.sve_env.specs.Nodes.{nodes}
 use Rattle.sve_measure.specs.Constants.{measured}
 use Rattle.sve_generate.specs.Constructs.{block_token, nesting_fault}
@@ -61,7 +61,7 @@ module _ {S : Type 0} (steps : Steps S) where
   unknown_costs : (i : Instance) (s : S) → CostsAtMost 0 (unknown_instance steps i s)
   unknown_costs i s = all_implied (steps.unknown_tokens i s) s (steps.unknown i)
 
-  known_costs : (i : Instance) (spec : Option Specialization) (s : S) → CostsAtMost 0 (known_instance steps i spec s)
+  known_costs : (i : Instance) (spec : Option Spec) (s : S) → CostsAtMost 0 (known_instance steps i spec s)
   known_costs i None s = unknown_costs i s
   known_costs i (Some spec) s = at_most_asked 0 (PortsOf spec) _ (λ ports. all_implied (steps.connection_tokens ports i s) s (steps.child spec ports i))
 

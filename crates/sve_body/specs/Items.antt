@@ -14,7 +14,7 @@ use Rattle.sve_tree.specs.declared.item.Instance.{Instance}
 use Rattle.sve_tree.specs.declared.item.Instantiation.{Instantiation}
 use Rattle.sve_tree.specs.declared.item.NetAssignment.{NetAssignment}
 use Rattle.sve_tree.specs.declared.statement.Stmt.{Stmt}
-use Rattle.sve_spec.specs.Specialization.{Specialization}
+use Rattle.sve_spec.specs.declared.spec.Spec.{Spec}
 use Rattle.sve_use.specs.Use.{Called, Dotted, Named, Use}
 use Rattle.sve_use.specs.Uses.{uses}
 use Rattle.sve_use.specs.LeftSides.{left_side_uses}
@@ -109,10 +109,10 @@ abbrev pub unknown_instance : {S : Type 0} → Steps S → Instance → S → Pl
 unknown_instance steps i s = and_then (each (implied steps) (steps.unknown_tokens i s) s) (λ t. Give (steps.unknown i t))
 
 -- the ports of a specialization are asked for, names in its connections make nets and are used, and it is a child
-abbrev pub special_instance : {S : Type 0} → Steps S → Instance → Specialization → S → Plan Reply S
+abbrev pub special_instance : {S : Type 0} → Steps S → Instance → Spec → S → Plan Reply S
 special_instance steps i spec s = and_then (ask (PortsOf spec)) (λ ports. and_then (each (implied steps) (steps.connection_tokens ports i s) s) (λ t. Give (steps.child spec ports i t)))
 
-abbrev pub known_instance : {S : Type 0} → Steps S → Instance → Option Specialization → S → Plan Reply S
+abbrev pub known_instance : {S : Type 0} → Steps S → Instance → Option Spec → S → Plan Reply S
 known_instance steps i None s = unknown_instance steps i s
 known_instance steps i (Some spec) s = special_instance steps i spec s
 

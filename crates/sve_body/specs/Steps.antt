@@ -16,7 +16,7 @@ use Rattle.sve_tree.specs.declared.item.GenerateBlock.{GenerateBlock}
 use Rattle.sve_tree.specs.declared.item.Instance.{Instance}
 use Rattle.sve_tree.specs.declared.item.Overrides.{Overrides}
 use Rattle.sve_index.specs.declared.whole.Index.{Index}
-use Rattle.sve_spec.specs.Specialization.{Specialization}
+use Rattle.sve_spec.specs.declared.spec.Spec.{Spec}
 use Rattle.sve_facts.specs.declared.facts.Port.{Port}
 use Rattle.sve_env.specs.Told.{Told}
 use Rattle.sve_item_names.specs.declared.name.ItemName.{ItemName}
@@ -68,9 +68,9 @@ pub record Steps (S : Type 0) : Type 0 where
   pub definition_at : Index → ℕ → S → Option Place
   pub no_definition : ℕ → S → S
   -- an instance: its specialization, where it has one; which plain names in its connections may make nets; and the child that it is
-  pub specialized : ℕ → Option Element → Instance → S → Option Specialization × S
+  pub specialized : ℕ → Option Element → Instance → S → Option Spec × S
   pub connection_tokens : List Port → Instance → S → List ℕ
-  pub child : Specialization → List Port → Instance → S → S
+  pub child : Spec → List Port → Instance → S → S
   -- the same of an instance without a specialization, which is no child
   pub unknown_tokens : Instance → S → List ℕ
   pub unknown : Instance → S → S

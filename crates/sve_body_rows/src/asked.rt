@@ -2,7 +2,7 @@
 use std::alloc::Global;
 use sve_bytes::{List, Name, NoMemory};
 use sve_row::{decoded, name_of, offset_of, value_of, word};
-use sve_spec::{Given, Spec};
+use sve_spec::{FaceGiven, Given, Spec};
 use sve_types::Value;
 
 /// What a row asks for.
@@ -57,6 +57,45 @@ fn given_in(alloc: Global, text: &str) -> Result<Option<Vec<Given>>, NoMemory> {
     }
 }
 
+/// The interface that a text names, with a modport or without.
+fn interface_in(alloc: Global, text: &str) -> Result<(Option<Name>, Option<Name>), NoMemory> {
+    match text.split_once('.') {
+        Some((interface, modport)) => Ok((
+            name_of(alloc, interface.as_bytes())?,
+            name_of(alloc, modport.as_bytes())?,
+        )),
+        None => Ok((name_of(alloc, text.as_bytes())?, None)),
+    }
+}
+
+/// What a word gives an interface port, where it is `.PORT(INTERFACE)` or `.PORT(INTERFACE.MODPORT)`.
+fn face_of(alloc: Global, word: &str) -> Result<Option<FaceGiven>, NoMemory> {
+    let Some(text) = word.strip_prefix(".") else {
+        return Ok(None);
+    };
+    let (port, rest) = text.split_once('(').unwrap_or((text, ""));
+    let (interface, modport) = interface_in(alloc, rest.trim_end_matches(')'))?;
+    let (Some(port), Some(interface)) = (name_of(alloc, port.as_bytes())?, interface) else {
+        return Ok(None);
+    };
+    Ok(Some(FaceGiven {
+        port,
+        interface,
+        modport,
+    }))
+}
+
+/// What words give interface ports.
+fn faces_in(alloc: Global, words: &str) -> Result<Vec<FaceGiven>, NoMemory> {
+    let mut faces = Vec::new(alloc);
+    for word in words.split(' ') {
+        if let Some(face) = face_of(alloc, word)? {
+            faces.push(face)?;
+        }
+    }
+    Ok(faces)
+}
+
 /// The number behind this word, where it stands among words, and else another.
 fn number_behind(words: &str, key: &str, otherwise: u32) -> u32 {
     let mut is_next = false;
@@ -85,7 +124,7 @@ fn asked_of(alloc: Global, definition: Name, rest: &str) -> Result<Option<Asked>
             spec: Spec {
                 definition,
                 values: List::of(given),
-                faces: Vec::new(alloc),
+                faces: List::of(faces_in(alloc, rest)?),
             },
             most: number_behind(rest, "most", u32::MAX),
             none: number_behind(rest, "none", u32::MAX),

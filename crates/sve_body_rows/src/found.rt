@@ -3,13 +3,13 @@ use crate::things::{add_declared, add_given, add_names, add_path, add_shared, di
 use std::alloc::Global;
 use std::io;
 use std::io::Write;
-use sve_bytes::NoMemory;
+use sve_bytes::{Name, NoMemory};
 use sve_diag::Note;
 use sve_facts::{Body, BodyScope, Child, Facts, ImplicitNet, ParameterValue, Port};
 use sve_row::{add_number, spell, write_line};
 use sve_row_element::value_text;
 use sve_scope::{Declared, FaceName};
-use sve_spec::Given;
+use sve_spec::{FaceGiven, Given};
 
 /// A declaration of a scope.
 fn declared_line(alloc: Global, declared: &Declared) -> Result<String, NoMemory> {
@@ -39,14 +39,24 @@ fn parameter_line(alloc: Global, parameter: &ParameterValue) -> Result<String, N
     Ok(out)
 }
 
+/// Adds an interface, and the modport through which it is given.
+fn add_interface(
+    out: &mut String,
+    interface: &Name,
+    modport: &Option<Name>,
+) -> Result<(), NoMemory> {
+    spell(out, interface.bytes())?;
+    if let Some(modport) = modport {
+        out.push('.')?;
+        spell(out, modport.bytes())?;
+    }
+    Ok(())
+}
+
 /// An interface port.
 fn face_line(alloc: Global, port: &Port, face: &FaceName) -> Result<String, NoMemory> {
     let mut out = String::from_str(alloc, "  port ")?;
-    spell(&mut out, face.interface.bytes())?;
-    if let Some(modport) = &face.modport {
-        out.push('.')?;
-        spell(&mut out, modport.bytes())?;
-    }
+    add_interface(&mut out, &face.interface, &face.modport)?;
     out.push(' ')?;
     spell(&mut out, port.name.bytes())?;
     Ok(out)
@@ -82,6 +92,18 @@ fn add_all_given(alloc: Global, out: &mut String, given: &[Given]) -> Result<(),
     Ok(())
 }
 
+/// Adds what interface ports are given.
+fn add_faces(out: &mut String, faces: &[FaceGiven]) -> Result<(), NoMemory> {
+    for given in faces {
+        out.push_str(" .")?;
+        spell(out, given.port.bytes())?;
+        out.push('(')?;
+        add_interface(out, &given.interface, &given.modport)?;
+        out.push(')')?;
+    }
+    Ok(())
+}
+
 /// An instance.
 fn child_line(alloc: Global, child: &Child) -> Result<String, NoMemory> {
     let mut out = String::from_str(alloc, "  child ")?;
@@ -91,6 +113,7 @@ fn child_line(alloc: Global, child: &Child) -> Result<String, NoMemory> {
     out.push_str(" (")?;
     add_all_given(alloc, &mut out, child.spec.values.items())?;
     out.push(')')?;
+    add_faces(&mut out, child.spec.faces.items())?;
     add_names(&mut out, " open", child.unconnected.items())?;
     Ok(out)
 }

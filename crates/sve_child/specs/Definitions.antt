@@ -1,9 +1,8 @@
--- The definition of which something is an instance (IEEE 1800-2017, 3.13 and 23.3): where it stands, what is said where it is not there, and the
--- specialization of it.
+-- The definition of which something is an instance (IEEE 1800-2017, 3.13 and 23.3): where it stands, and the specialization of
+-- it.
 use Rattle.std.specs.Global.{Global}
 use Rattle.std.specs.Prelude.{ℕ, List, Option, Some, None, option_map}
 use Rattle.std.specs.declared.sync.Arc.{Arc}
-use Rattle.sve_diag.specs.declared.code.Code.TheVariants.{N09}
 use Rattle.sve_table.specs.Tables.{item_of}
 use Rattle.sve_tree.specs.declared.element.Element.{Element}
 use Rattle.sve_tree.specs.declared.item.Instance.{Instance}
@@ -15,7 +14,6 @@ use Rattle.sve_look.specs.Questions.{element_in}
 use Rattle.sve_body.specs.declared.place.Place.{Place}
 use Rattle.sve_known.specs.Naming.{name_at}
 use Rattle.sve_contents.specs.declared.contents.Contents.{Contents}
-use Rattle.sve_contents.specs.Reading.{remarked}
 use Rattle.sve_param.specs.declared.overriding.Override.{Override}
 use Rattle.sve_override.specs.declared.specializing.Specialized.{Specialized}
 use Rattle.sve_override.specs.Specializations.{with_specialization}
@@ -31,14 +29,6 @@ place_in index (Some n) = option_map place_of_def (item_of def_name n index.defi
 -- where the definition stands whose name is at a token
 abbrev pub place_named : Index → List Word → ℕ → Option Place
 place_named index ws token = place_in index (name_at ws token)
-
--- there is none of this name
-abbrev pub name_undefined : Contents → ℕ → Option (List ℕ) → Contents
-name_undefined c token None = c
-name_undefined c token (Some n) = remarked c token N09 (Some n)
-
-abbrev pub undefined : List Word → Contents → ℕ → Contents
-undefined ws c token = name_undefined c token (name_at ws token)
 
 -- the specialization of an instance, wherever the tree of its definition lies in memory
 abbrev pub specialized_in : List Word → Contents → List Override → ℕ → Option (Arc Element Global) → Instance → Specialized

@@ -1,9 +1,10 @@
 //! Instances in the scope in which they stand.
 ghost use Rattle.std.specs.Prelude.{◌≡◌, IfOk, None, option_map};
 ghost use Rattle.sve_nested.specs.Blocks.{path_to};
-ghost use Rattle.sve_child.specs.Children.{child_named, placed_as, with_child, with_no_child};
+ghost use Rattle.sve_child.specs.Children.{child_named, placed_as, placed_in, with_child, with_faces, with_no_child};
 
 use crate::connecting::names_connected;
+use crate::faces::{faces_given, pairs_said};
 use std::alloc::Global;
 use sve_around::Instances;
 use sve_bytes::{List, Name, NoMemory, Path, Step};
@@ -12,7 +13,7 @@ use sve_facts::{Child, Port};
 use sve_instance::{Connections, with_connections, with_unknown};
 use sve_known::name_at;
 use sve_scoped::Text;
-use sve_spec::Spec;
+use sve_spec::{FaceGiven, Spec};
 use sve_tree::{Instance, Word};
 use sve_used_names::arguments_used;
 
@@ -84,9 +85,58 @@ fn placed_as(
     Ok(Placed { contents, child })
 }
 
+/// A specialization whose interface ports are given this.
+fn with_faces(spec: Spec, faces: List<FaceGiven>) -> Spec
+    ensures { result ≡ with_faces spec faces }
+{
+    let Spec {
+        definition,
+        values,
+        faces: _,
+    } = spec;
+    Spec {
+        definition,
+        values,
+        faces,
+    }
+}
+
+/// The child behind what its connections leave, with what its interface ports are given.
+fn placed_in<I: Instances>(
+    alloc: Global,
+    text: Text<'_>,
+    instances: &I,
+    path: &Path,
+    spec: Spec,
+    ports: &[Port],
+    instance: &Instance,
+    left: Connections,
+) -> Result<Placed, NoMemory>
+    ensures { IfOk result (λ p. p ≡ placed_in text.entry.packages.now text.entry.words.now (I.modports instances.now) path.now spec ports.now instance.now left) }
+{
+    let Connections {
+        contents,
+        pairs,
+        unconnected,
+    } = left;
+    let given = pairs.items();
+    let faces = faces_given(
+        alloc, text.words, &contents, instances, ports, instance, given,
+    )?;
+    let contents = pairs_said(alloc, text, contents, instances, ports, instance, given)?;
+    let spec = with_faces(spec, faces);
+    let left = Connections {
+        contents,
+        pairs,
+        unconnected,
+    };
+    placed_as(alloc, text.words, path, spec, instance.name, left)
+}
+
 /// What an instance of this specialization leaves in the scope of a path of the body, where the specialization has these ports
 /// (IEEE 1800-2017, 23.3): the names in its connections are used, its name is declared, and what is wrong with its connections is said.
-/// The child's path is that of the scope and its own name; without a name it is none.
+/// The child's path is that of the scope and its own name; without a name it is none. Its interface ports are given what stands in their
+/// connections (25.3 and 25.5).
 ///
 /// # Errors
 /// For want of memory alone.
@@ -100,11 +150,11 @@ pub fn with_child<I: Instances>(
     ports: &[Port],
     instance: &Instance,
 ) -> Result<Placed, NoMemory>
-    ensures { IfOk result (λ p. p ≡ with_child text.entry.packages.now text.entry.words.now (I.interfaces instances.now) contents path.now spec ports.now instance.now) }
+    ensures { IfOk result (λ p. p ≡ with_child text.entry.packages.now text.entry.words.now (I.interfaces instances.now) (I.modports instances.now) contents path.now spec ports.now instance.now) }
 {
     let contents = names_connected(alloc, text, contents, instances, ports, instance)?;
     let left = with_connections(alloc, text, contents, instances, ports, instance)?;
-    placed_as(alloc, text.words, path, spec, instance.name, left)
+    placed_in(alloc, text, instances, path, spec, ports, instance, left)
 }
 
 /// What an instance without a specialization leaves, which is no child (IEEE 1800-2017, 23.3.2): the names in its connections are used,

@@ -1,14 +1,13 @@
 //! The definition of which something is an instance.
 ghost use Rattle.std.specs.Prelude.{◌≡◌, IfOk, Some, option_map};
 ghost use Rattle.sve_look.specs.Questions.{element_in};
-ghost use Rattle.sve_child.specs.Definitions.{place_in, place_named, place_of_def, specialized_in, undefined};
+ghost use Rattle.sve_child.specs.Definitions.{place_in, place_named, place_of_def, specialized_in};
 
 use std::alloc::Global;
 use std::sync::Arc;
 use sve_body::Place;
 use sve_bytes::{Name, NoMemory};
 use sve_contents::Contents;
-use sve_diag::Code;
 use sve_index::{Def, Index};
 use sve_known::name_at;
 use sve_override::{Specialized, with_specialization};
@@ -47,19 +46,6 @@ pub fn place_named(index: &Index, words: &[Word], token: u32) -> Result<Option<P
     match name_at(words, token) {
         Some(name) => place_in(index, name),
         None => Ok(None),
-    }
-}
-
-/// Says that there is no definition of the name at a token (N09; IEEE 1800-2017, 23.3). Of a token without a name nothing is said.
-///
-/// # Errors
-/// For want of memory alone.
-pub fn undefined(words: &[Word], contents: Contents, token: u32) -> Result<Contents, NoMemory>
-    ensures { IfOk result (λ c. c ≡ undefined words.now contents token) }
-{
-    match name_at(words, token) {
-        Some(name) => contents.remarked(token, Code::N09, name.copy()?),
-        None => Ok(contents),
     }
 }
 

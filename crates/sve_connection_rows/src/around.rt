@@ -44,12 +44,19 @@ fn interface_of(instance: Option<&Instance>) -> Option<&Name>
 }
 
 impl Instances for Faces {
+    ghost use Rattle.std.specs.Prelude.{false};
     ghost use Rattle.sve_connection_rows.specs.Instances.{interface_named};
 
     ghost interfaces = { λ s d. interface_named s.instances d.name };
 
+    ghost modports = { λ s d modport. false };
+
     fn interface(&self, declared: &Declared) -> Option<&Name> {
         interface_of(self.instances.get(&declared.name))
+    }
+
+    fn has_modport(&self, _declared: &Declared, _modport: &Name) -> bool {
+        false
     }
 }
 

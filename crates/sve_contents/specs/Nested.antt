@@ -6,12 +6,12 @@ use Rattle.sve_contents.specs.declared.contents.Contents.{Contents}
 
 -- a scope of the same chunk begins
 abbrev pub entered : Contents → Contents
-entered c = record { scope = empty_scope c.scope.file c.scope.chunk; around = c.scope ∷ c.around; notes = c.notes }
+entered c = record { scope = empty_scope c.scope.file c.scope.chunk; around = c.scope ∷ c.around; notes = c.notes; dotted = c.dotted }
 
 -- and ends, so that the text goes on in the next outward, where there is one
 abbrev pub left_to : Contents → List Scope → Contents
 left_to c [] = c
-left_to c (outer ∷ more) = record { scope = outer; around = more; notes = c.notes }
+left_to c (outer ∷ more) = record { scope = outer; around = more; notes = c.notes; dotted = c.dotted }
 
 abbrev pub left : Contents → Contents
 left c = left_to c c.around

@@ -13,11 +13,12 @@ use Rattle.sve_scope.specs.declared.spot.Spot.{Spot}
 use Rattle.sve_scope.specs.Spots.{spot}
 use Rattle.sve_scope.specs.Scopes.{announcing, declared_as, declaring}
 use Rattle.sve_contents.specs.declared.contents.Contents.{Contents}
+use Rattle.sve_contents.specs.declared.contents.DottedName.{DottedName}
 use Rattle.sve_contents.specs.declared.contents.Entering.{Entering}
 
 -- a scope with nothing around it
 abbrev pub empty_contents : Scope → Contents
-empty_contents s = record { scope = s; around = []; notes = [] }
+empty_contents s = record { scope = s; around = []; notes = []; dotted = [] }
 
 abbrev pub with_scope : Contents → Scope → Contents
 with_scope c s = record c { scope = s }
@@ -33,6 +34,14 @@ noted c note = record c { notes = c.notes ++ note ∷ [] }
 -- and many notes more
 abbrev pub noted_all : Contents → List Note → Contents
 noted_all c notes = record c { notes = c.notes ++ notes }
+
+-- a hierarchical name more that is used
+abbrev pub with_dotted : Contents → DottedName → Contents
+with_dotted c name = record c { dotted = c.dotted ++ name ∷ [] }
+
+-- those so far are taken out
+abbrev pub without_dotted : Contents → Contents
+without_dotted c = record c { dotted = [] }
 
 -- this is said of a name at a token of its text
 abbrev pub remarked : Contents → ℕ → Code → Option (List ℕ) → Contents

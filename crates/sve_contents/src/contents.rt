@@ -1,14 +1,29 @@
 ghost use Rattle.std.specs.Prelude.{◌≡◌, IfOk, Some};
-ghost use Rattle.sve_contents.specs.Reading.{announcing_in, declaration_entering, declaring_in, empty_contents, noted, noted_all, noted_if, remarked, said, spot_in, with_entry};
+ghost use Rattle.sve_contents.specs.Reading.{announcing_in, declaration_entering, declaring_in, empty_contents, noted, noted_all, noted_if, remarked, said, spot_in, with_dotted, with_entry, without_dotted};
 ghost use Rattle.sve_scope.specs.Scopes.{empty_scope};
 
 use std::alloc::Global;
-use sve_bytes::{List, Name, NoMemory};
+use std::mem;
+use sve_bytes::{List, Name, NoMemory, Path};
 use sve_diag::{Code, Note};
 use sve_fault::Fault;
 use sve_scope::{Declared, Enclosing, Entered, Scope, Spot};
 
-/// A scope, as far as its text is read, the scopes around it, and what is to be said of that text.
+/// A hierarchical name that a text uses (IEEE 1800-2017, 23.6): a name with members behind it that is sought above the body too.
+pub struct DottedName {
+    /// The number of its first token in the chunk of the text.
+    pub token: u32,
+    /// The name.
+    pub name: Path,
+}
+
+impl Drop for DottedName {
+    fn drop(self) {
+        let DottedName { token: _, name: _ } = self;
+    }
+}
+
+/// A scope, as far as its text is read, the scopes around it, what is to be said of that text, and the hierarchical names that it uses.
 pub struct Contents {
     /// The scope. What is said of it stands in its file and chunk.
     pub scope: Scope,
@@ -16,6 +31,8 @@ pub struct Contents {
     pub around: Enclosing<Scope>,
     /// What is to be said, in the order of the text.
     pub notes: List<Note>,
+    /// The hierarchical names that were used since they were last taken out, in the order of the text.
+    pub dotted: List<DottedName>,
 }
 
 impl Drop for Contents {
@@ -24,6 +41,7 @@ impl Drop for Contents {
             scope: _,
             around: _,
             notes: _,
+            dotted: _,
         } = self;
     }
 }
@@ -55,6 +73,7 @@ impl Contents {
             scope: Scope::new(alloc, file, chunk),
             around: Enclosing::new(alloc),
             notes: List::of(Vec::new(alloc)),
+            dotted: List::of(Vec::new(alloc)),
         }
     }
 
@@ -67,6 +86,7 @@ impl Contents {
             scope,
             around: _,
             notes,
+            dotted: _,
         } = self;
         Finished { scope, notes }
     }
@@ -79,6 +99,7 @@ impl Contents {
             scope,
             around,
             notes,
+            dotted,
         } = self;
         let mut notes = notes.into_vec();
         notes.push(note)?;
@@ -86,6 +107,7 @@ impl Contents {
             scope,
             around,
             notes: List::of(notes),
+            dotted,
         })
     }
 
@@ -113,6 +135,7 @@ impl Contents {
             scope,
             around,
             notes,
+            dotted,
         } = self;
         let mut notes = notes.into_vec();
         notes.append(&mut more.into_vec())?;
@@ -120,7 +143,39 @@ impl Contents {
             scope,
             around,
             notes: List::of(notes),
+            dotted,
         })
+    }
+
+    /// A hierarchical name more that is used in its text.
+    ///
+    /// # Errors
+    /// For want of memory alone.
+    pub fn with_dotted(self, name: DottedName) -> Result<Contents, NoMemory>
+        ensures { IfOk result (λ c. c ≡ with_dotted self name) }
+    {
+        let Contents {
+            scope,
+            around,
+            notes,
+            dotted,
+        } = self;
+        let mut dotted = dotted.into_vec();
+        dotted.push(name)?;
+        Ok(Contents {
+            scope,
+            around,
+            notes,
+            dotted: List::of(dotted),
+        })
+    }
+
+    /// The hierarchical names that were used so far, taken out. It takes no memory.
+    pub fn take_dotted(&mut self, alloc: Global) -> List<DottedName>
+        ensures names { result ≡ self.old.dotted }
+        ensures left { self.new ≡ without_dotted self.old }
+    {
+        mem::replace(&mut self.dotted, List::of(Vec::new(alloc)))
     }
 
     /// Says this of a name at a token.

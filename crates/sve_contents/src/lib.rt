@@ -8,4 +8,4 @@ mod imported;
 mod nested;
 mod used;
 
-pub use contents::{Contents, Finished};
+pub use contents::{Contents, DottedName, Finished};

@@ -100,7 +100,10 @@ impl Contents {
     }
 
     /// Says what is to be said of a fault, where there is one.
-    fn said_if(self, fault: Option<Fault>) -> Result<Contents, NoMemory>
+    ///
+    /// # Errors
+    /// For want of memory alone.
+    pub fn said_if(self, fault: Option<Fault>) -> Result<Contents, NoMemory>
         ensures { IfOk result (λ c. c ≡ said_if self fault) }
     {
         match fault {

@@ -14,4 +14,4 @@ pub use declarators::{declarator_after, separator};
 pub use kind::DataKind;
 pub use known::{scalar, selected_in};
 pub use sve_scoped::{Text, around, declared_at, declared_in, ended, endless};
-pub use sve_used::{dotted_use, names_used, taken_out};
+pub use sve_used::{dotted_use, names_used, selected_use, taken_out};

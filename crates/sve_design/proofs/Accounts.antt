@@ -6,7 +6,7 @@ use Rattle.std.proofs.Math.Seq.{drop-cons}
 use Rattle.std.proofs.lemmas.List.{append_assoc, append-nil, drop_all}
 use Rattle.std.proofs.lemmas.Bool.{leb-true, leb-false}
 use Rattle.sve_bytes.specs.declared.path.Path.{Path}
-use Rattle.sve_spec.specs.Specialization.{Specialization}
+use Rattle.sve_spec.specs.declared.spec.Spec.{Spec}
 use Rattle.sve_facts.specs.declared.facts.Child.{Child}
 use Rattle.sve_facts.specs.declared.facts.Facts.{Facts}
 use Rattle.sve_told.specs.Told.{asked_on}
@@ -50,14 +50,14 @@ abbrev cost_in : BodyValue → ℕ
 cost_in (Costs facts cost) = cost
 cost_in CostsMore = 0
 
-pub so_done : (design : Design) (spec : Specialization) (fuel : ℕ) (facts : Facts) (cost : ℕ) → Costs facts cost ≡ answer_of design (OfBody spec fuel) → (nat_le (design.cost spec) fuel ≡ true) × (design.facts spec ≡ facts) × (design.cost spec ≡ cost)
+pub so_done : (design : Design) (spec : Spec) (fuel : ℕ) (facts : Facts) (cost : ℕ) → Costs facts cost ≡ answer_of design (OfBody spec fuel) → (nat_le (design.cost spec) fuel ≡ true) × (design.facts spec ≡ facts) × (design.cost spec ≡ cost)
 so_done design spec fuel facts cost e = by (nat_le (design.cost spec) fuel) e
   where
     by : (b : Bool) → Costs facts cost ≡ cond b (Costs (design.facts spec) (design.cost spec)) CostsMore → (b ≡ true) × (design.facts spec ≡ facts) × (design.cost spec ≡ cost)
     by true e = (refl, sym (ap (λ v. facts_in v facts) e), sym (ap cost_in e))
     by false e = cc
 
-pub so_over : (design : Design) (spec : Specialization) (fuel : ℕ) → CostsMore ≡ answer_of design (OfBody spec fuel) → nat_le (design.cost spec) fuel ≡ false
+pub so_over : (design : Design) (spec : Spec) (fuel : ℕ) → CostsMore ≡ answer_of design (OfBody spec fuel) → nat_le (design.cost spec) fuel ≡ false
 so_over design spec fuel e = by (nat_le (design.cost spec) fuel) e
   where
     by : (b : Bool) → CostsMore ≡ cond b (Costs (design.facts spec) (design.cost spec)) CostsMore → b ≡ false
@@ -65,7 +65,7 @@ so_over design spec fuel e = by (nat_le (design.cost spec) fuel) e
     by false e = refl
 
 -- an instance is entered: what is left to pay for is what is below it
-pub entered : (design : Design) (levels below depth left : ℕ) (path : Path) (spec : Specialization) (facts : Facts) (cost : ℕ) (children : List Child) (a b : Account) → levels ≡ suc below → a.left ≡ suc left → Costs facts cost ≡ answer_of design (OfBody spec left) → children ≡ facts.children → b ≡ record { visits = a.visits ++ record { path = path; spec = spec; depth = depth } ∷ []; left = left - cost; asked = asked_on (OfBody spec left ∷ []) a.asked } → pay_all design (subtree design levels depth path spec) a ≡ pay_all design (flat_map (λ (child : Child). subtree design below (depth + 1) (inside path child.path) child.spec) children) b
+pub entered : (design : Design) (levels below depth left : ℕ) (path : Path) (spec : Spec) (facts : Facts) (cost : ℕ) (children : List Child) (a b : Account) → levels ≡ suc below → a.left ≡ suc left → Costs facts cost ≡ answer_of design (OfBody spec left) → children ≡ facts.children → b ≡ record { visits = a.visits ++ record { path = path; spec = spec; depth = depth } ∷ []; left = left - cost; asked = asked_on (OfBody spec left ∷ []) a.asked } → pay_all design (subtree design levels depth path spec) a ≡ pay_all design (flat_map (λ (child : Child). subtree design below (depth + 1) (inside path child.path) child.spec) children) b
 entered design levels below depth left path spec facts cost children a b more some told same after =
     let v : Visit = record { path = path; spec = spec; depth = depth } in
     let f = λ (child : Child). subtree design below (depth + 1) (inside path child.path) child.spec in
@@ -76,14 +76,14 @@ entered design levels below depth left path spec facts cost children a b more so
     ∙ ap (pay_all design (flat_map f children)) (ap (λ (n : ℕ). record { visits = a.visits ++ v ∷ []; left = left - n; asked = asked_on (OfBody spec left ∷ []) a.asked }) s.2 ∙ sym after)
 
 -- nothing is left
-pub none_left : (design : Design) (levels below depth : ℕ) (path : Path) (spec : Specialization) (a : Account) → levels ≡ suc below → a.left ≡ 0 → pay_all design (subtree design levels depth path spec) a ≡ (false, a)
+pub none_left : (design : Design) (levels below depth : ℕ) (path : Path) (spec : Spec) (a : Account) → levels ≡ suc below → a.left ≡ 0 → pay_all design (subtree design levels depth path spec) a ≡ (false, a)
 none_left design levels below depth path spec a more none =
     let v : Visit = record { path = path; spec = spec; depth = depth } in
     let rest = pay_all design (flat_map (λ (child : Child). subtree design below (depth + 1) (inside path child.path) child.spec) (design.facts spec).children) in
     ap (λ (n : ℕ). pay_all design (subtree design n depth path spec) a) more ∙ ap (λ (n : ℕ). pay_first design v n a rest) none
 
 -- too little is left
-pub too_dear : (design : Design) (levels below depth left : ℕ) (path : Path) (spec : Specialization) (a : Account) (asked : Option (List Question)) → levels ≡ suc below → a.left ≡ suc left → CostsMore ≡ answer_of design (OfBody spec left) → asked ≡ asked_on (OfBody spec left ∷ []) a.asked → pay_all design (subtree design levels depth path spec) a ≡ (false, record a { asked = asked })
+pub too_dear : (design : Design) (levels below depth left : ℕ) (path : Path) (spec : Spec) (a : Account) (asked : Option (List Question)) → levels ≡ suc below → a.left ≡ suc left → CostsMore ≡ answer_of design (OfBody spec left) → asked ≡ asked_on (OfBody spec left ∷ []) a.asked → pay_all design (subtree design levels depth path spec) a ≡ (false, record a { asked = asked })
 too_dear design levels below depth left path spec a asked more some told after =
     let v : Visit = record { path = path; spec = spec; depth = depth } in
     let rest = pay_all design (flat_map (λ (child : Child). subtree design below (depth + 1) (inside path child.path) child.spec) (design.facts spec).children) in

@@ -5,7 +5,7 @@ use Rattle.std.specs.List.{Contains, flat_map}
 use Rattle.std.proofs.lemmas.List.Elements.{Contains-append_cases, Contains-append_left, Contains-append_right}
 use Rattle.std.proofs.lemmas.Bool.{le-leb}
 use Rattle.sve_bytes.specs.declared.path.Path.{Path}
-use Rattle.sve_spec.specs.Specialization.{Specialization}
+use Rattle.sve_spec.specs.declared.spec.Spec.{Spec}
 use Rattle.sve_told.specs.Told.{Tells, TellSame}
 use Rattle.sve_facts.specs.declared.facts.Child.{Child}
 use Rattle.sve_facts.specs.declared.facts.Facts.{Facts}
@@ -62,7 +62,7 @@ asks_rest design f xs i x part a b q lt e same h c =
     (asks_behind design (f x) (flat_map f (drop (i + 1) xs)) a.left q p.enough (subst (λ (n : ℕ). Contains (bodies_asked design n (flat_map f (drop (i + 1) xs))) q) p.left c))
 
 -- an instance asks for its body, and what is below it asks for what it does
-pub asks_itself : (design : Design) (levels below depth left n : ℕ) (path : Path) (spec : Specialization) → levels ≡ suc below → left ≡ suc n → Contains (bodies_asked design left (subtree design levels depth path spec)) (OfBody spec n)
+pub asks_itself : (design : Design) (levels below depth left n : ℕ) (path : Path) (spec : Spec) → levels ≡ suc below → left ≡ suc n → Contains (bodies_asked design left (subtree design levels depth path spec)) (OfBody spec n)
 asks_itself design levels below depth left n path spec more some =
     let v : Visit = record { path = path; spec = spec; depth = depth } in
     let vs = flat_map (λ (child : Child). subtree design below (depth + 1) (inside path child.path) child.spec) (design.facts spec).children in
@@ -70,7 +70,7 @@ asks_itself design levels below depth left n path spec more some =
     ap (λ (l : ℕ). bodies_asked design left (subtree design l depth path spec)) more ∙ asks_next design v vs left n (nat_le (design.cost spec) n) some refl in
     subst (λ (qs : List Question). Contains qs (OfBody spec n)) (sym whole) (first_in (OfBody spec n) (cond (nat_le (design.cost spec) n) (bodies_asked design (n - design.cost spec) vs) []))
 
-pub asks_below : (design : Design) (levels below depth left n : ℕ) (path : Path) (spec : Specialization) (facts : Facts) (cost : ℕ) (children : List Child) (q : Question) → levels ≡ suc below → left ≡ suc n → Costs facts cost ≡ answer_of design (OfBody spec n) → children ≡ facts.children → Contains (bodies_asked design (n - cost) (flat_map (λ (child : Child). subtree design below (depth + 1) (inside path child.path) child.spec) children)) q → Contains (bodies_asked design left (subtree design levels depth path spec)) q
+pub asks_below : (design : Design) (levels below depth left n : ℕ) (path : Path) (spec : Spec) (facts : Facts) (cost : ℕ) (children : List Child) (q : Question) → levels ≡ suc below → left ≡ suc n → Costs facts cost ≡ answer_of design (OfBody spec n) → children ≡ facts.children → Contains (bodies_asked design (n - cost) (flat_map (λ (child : Child). subtree design below (depth + 1) (inside path child.path) child.spec) children)) q → Contains (bodies_asked design left (subtree design levels depth path spec)) q
 asks_below design levels below depth left n path spec facts cost children q more some told same c =
     let v : Visit = record { path = path; spec = spec; depth = depth } in
     let f = λ (child : Child). subtree design below (depth + 1) (inside path child.path) child.spec in

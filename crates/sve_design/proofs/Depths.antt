@@ -3,7 +3,7 @@ use Rattle.std.proofs.Common.{◌≡◌, ℕ, zero, suc, ◌+◌, ◌<◌, ◌�
 use Rattle.std.specs.List.{Contains, flat_map}
 use Rattle.std.proofs.lemmas.List.Elements.{Contains-append_cases}
 use Rattle.sve_bytes.specs.declared.path.Path.{Path}
-use Rattle.sve_spec.specs.Specialization.{Specialization}
+use Rattle.sve_spec.specs.declared.spec.Spec.{Spec}
 use Rattle.sve_facts.specs.declared.facts.Child.{Child}
 use Rattle.sve_facts.specs.Bodies.{Design}
 use Rattle.sve_design.specs.declared.visits.Visit.{Visit}
@@ -24,7 +24,7 @@ itself_or u v vs low high at within rest (inr c) = let r = rest c in (omega (ari
 itself_or u v vs low high at within rest (inl (zero, lt, is)) = let same : v.depth ≡ low = ap (λ (w : Visit). w.depth) (sym is) ∙ at in (omega (arith, same), omega (arith, same, within))
 itself_or u v vs low high at within rest (inl (suc k, lt, is)) = absurd (omega (arith, lt))
 
-depths_in : (design : Design) (levels depth high : ℕ) (path : Path) (spec : Specialization) → depth + levels ≡ high → (v : Visit) → Contains (subtree design levels depth path spec) v → IsWithin depth high v
+depths_in : (design : Design) (levels depth high : ℕ) (path : Path) (spec : Spec) → depth + levels ≡ high → (v : Visit) → Contains (subtree design levels depth path spec) v → IsWithin depth high v
 depths_in design zero depth high path spec e v c = absurd (nothing_in v c)
 depths_in design (suc levels) depth high path spec e v c =
     let u : Visit = record { path = path; spec = spec; depth = depth } in

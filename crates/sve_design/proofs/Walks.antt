@@ -3,7 +3,7 @@ use Rattle.std.proofs.Common.{◌≡◌, Bool, true, false, cond, Some, None, Li
 use Rattle.std.proofs.lemmas.Bool.{le-leb, lt-leb}
 use Rattle.sve_bytes.specs.declared.path.Path.{Path}
 use Rattle.sve_bytes.specs.declared.path.Step.{Step}
-use Rattle.sve_spec.specs.Specialization.{Specialization}
+use Rattle.sve_spec.specs.declared.spec.Spec.{Spec}
 use Rattle.sve_told.specs.Told.{asked_on}
 use Rattle.sve_facts.specs.Bodies.{Design}
 use Rattle.sve_design.specs.declared.visits.Visit.{Visit}
@@ -29,6 +29,6 @@ pub asked_for : (design : Design) (vs : List Visit) (a b : Account) (r : Bool) �
 asked_for design vs a b r e = asked_by design vs a b r (subst (λ (x : Bool × Account). ComesTo design vs a x) e (comes_to design vs a))
 
 -- the part that a top gives, below a root of no steps
-pub top_part : (design : Design) (top : Specialization) (steps : List Step) (path : Path) → steps ≡ [] → path ≡ top_path top → subtree design 64 1 (inside (record { steps = steps }) path) top ≡ subtree design 64 1 (top_path top) top
+pub top_part : (design : Design) (top : Spec) (steps : List Step) (path : Path) → steps ≡ [] → path ≡ top_path top → subtree design 64 1 (inside (record { steps = steps }) path) top ≡ subtree design 64 1 (top_path top) top
 top_part design top steps path none e =
     ap (λ (xs : List Step). subtree design 64 1 (inside (record { steps = xs }) path) top) none ∙ ap (λ (p : Path). subtree design 64 1 p top) e

@@ -2,7 +2,7 @@
 use Rattle.std.specs.Prelude.{ℕ, zero, suc, ◌+◌, Option, Some, None, nat_le, if◌then◌else◌, List, [], ◌∷◌, ◌++◌}
 use Rattle.std.specs.List.{flat_map}
 use Rattle.sve_bytes.specs.declared.path.Path.{Path}
-use Rattle.sve_spec.specs.Specialization.{Specialization, specialization}
+use Rattle.sve_spec.specs.declared.spec.Spec.{Spec}
 use Rattle.sve_facts.specs.declared.facts.Child.{Child}
 use Rattle.sve_facts.specs.Bodies.{Design}
 use Rattle.sve_design.specs.declared.visits.Visit.{Visit}
@@ -13,16 +13,12 @@ use Rattle.sve_design.specs.declared.visits.Walk.TheVariants as is_walk
 abbrev pub inside : Path → Path → Path
 inside parent path = record { steps = parent.steps ++ path.steps }
 
--- the name of what is specialized
-abbrev pub definition_of : Specialization → List ℕ
-definition_of (specialization definition values faces) = definition
-
 -- a top is named as its module is
-abbrev pub top_path : Specialization → Path
-top_path top = record { steps = record { name = definition_of top; index = None } ∷ [] }
+abbrev pub top_path : Spec → Path
+top_path top = record { steps = record { name = top.definition; index = None } ∷ [] }
 
 -- an instance with all below it, so many levels in all: each before its children, and these in the order of the text
-abbrev pub subtree : Design → ℕ → ℕ → Path → Specialization → List Visit
+abbrev pub subtree : Design → ℕ → ℕ → Path → Spec → List Visit
 subtree design zero depth path spec = []
 subtree design (suc levels) depth path spec =
     record { path = path; spec = spec; depth = depth } ∷ flat_map (λ (child : Child). subtree design levels (depth + 1) (inside path child.path) child.spec) (design.facts spec).children

@@ -6,7 +6,7 @@ use Rattle.sve_diag.specs.declared.diag.Place.{Place}
 use Rattle.sve_text.specs.Rows.{Row}
 use Rattle.sve_scope.specs.declared.declared.Declared.{Declared}
 use Rattle.sve_design.specs.declared.visits.Visit.{Visit}
-use Rattle.sve_design.specs.Walk.{definition_of, walk}
+use Rattle.sve_design.specs.Walk.{walk}
 use Rattle.sve_find.specs.Ends.{FindValue, FoundValue, Here, Nowhere, Spent}
 use Rattle.sve_find.specs.Along.{find}
 use Rattle.sve_listing.specs.Files.{none}
@@ -37,7 +37,7 @@ answered_by lines Spent = is_answer.Spent
 
 abbrev pub lines_at : List Row → FoundValue → Option Place → List (List ℕ)
 lines_at rows found None = none
-lines_at rows found (Some place) = instance_lines (definition_of found.visit.spec) place (file_text rows place.file) found.facts
+lines_at rows found (Some place) = instance_lines found.visit.spec.definition place (file_text rows place.file) found.facts
 
 -- a generate block is no instance
 abbrev pub lines_of_rest : List Row → ProjectValue → FoundValue → List Step → List (List ℕ)

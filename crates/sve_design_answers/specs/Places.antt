@@ -7,7 +7,6 @@ use Rattle.sve_index.specs.declared.def.Def.{Def}
 use Rattle.sve_index.specs.Defs.{def_name}
 use Rattle.sve_scope.specs.declared.spot.Spot.{Spot}
 use Rattle.sve_scope.specs.Spots.{spot}
-use Rattle.sve_design.specs.Walk.{definition_of}
 use Rattle.sve_find.specs.Ends.{FoundValue}
 use Rattle.sve_front.specs.Places.{token_place_in}
 use Rattle.sve_named.specs.Projects.{ProjectValue, tree_in}
@@ -30,4 +29,4 @@ module _ (p : ProjectValue) where
   or_module definition None = module_name definition
 
   abbrev pub instance_place : FoundValue → Option Place
-  instance_place found = option_and_then place_of (or_module (definition_of found.visit.spec) found.at)
+  instance_place found = option_and_then place_of (or_module found.visit.spec.definition found.at)

@@ -9,45 +9,66 @@ use Rattle.sve_index.specs.declared.def.Def.{Def}
 use Rattle.sve_index.specs.declared.whole.Index.{Index}
 use Rattle.sve_index.specs.Defs.{def_name}
 use Rattle.sve_known.specs.Naming.{name_at}
+use Rattle.sve_scope.specs.declared.interface.InterfaceNames.{InterfaceNames}
+use Rattle.sve_iface.specs.Names.{interface_names}
 use Rattle.sve_port.specs.declared.interfaces.DesignKind.{DesignKind}
 use Rattle.sve_port.specs.declared.interfaces.DesignKind.TheVariants.{Module, Interface}
 use Rattle.sve_plan.specs.Plan.{Give, Plan, and_then, ask}
 use Rattle.sve_look.specs.Questions.{ElementOf, Reply}
 use Rattle.sve_design_kinds.specs.declared.kinds.KnownDesign.{KnownDesign}
 
--- ---- what a design is; a package is neither, nor is a chunk that is refused
+-- the names of a definition itself, where it is an interface
+abbrev pub names_of_design : List Word → Design → Option InterfaceNames
+names_of_design ws (is_design.Module keyword definition) = None
+names_of_design ws (is_design.Interface keyword definition) = Some (interface_names ws definition.value)
+names_of_design ws (is_design.Package unit) = None
 
-abbrev pub kind_of : Design → Option DesignKind
-kind_of (is_design.Module keyword definition) = Some Module
-kind_of (is_design.Interface keyword definition) = Some Interface
-kind_of (is_design.Package unit) = None
+abbrev pub names_in_element : List Word → Option Design → Option InterfaceNames
+names_in_element ws None = None
+names_in_element ws (Some design) = names_of_design ws design
 
-abbrev pub design_kind : Option Design → Option DesignKind
-design_kind None = None
-design_kind (Some design) = kind_of design
+abbrev pub own_names : Element → Option InterfaceNames
+own_names e = names_in_element e.words.items e.design
 
-abbrev pub element_kind : Option Element → Option DesignKind
-element_kind None = None
-element_kind (Some e) = design_kind e.design
-
--- ---- what is known of names
+-- ---- what is known of names: of an interface also its own names
 
 abbrev pub known_name : KnownDesign → List ℕ
 known_name k = k.name
 
+abbrev pub kind_by : Option InterfaceNames → DesignKind
+kind_by None = Module
+kind_by (Some names) = Interface
+
 abbrev pub known_kind : KnownDesign → DesignKind
-known_kind k = k.kind
+known_kind k = kind_by k.names
 
 abbrev pub kind_in : List KnownDesign → List ℕ → Option DesignKind
 kind_in known n = option_map known_kind (item_of known_name n known)
 
-abbrev pub with_kind : List KnownDesign → List ℕ → Option DesignKind → List KnownDesign
-with_kind known n None = known
-with_kind known n (Some kind) = with_item known_name known (record { name = n; kind = kind })
+-- ---- one more; a package is neither a module nor an interface, nor is a chunk that is refused
+
+abbrev pub with_names : List KnownDesign → List ℕ → Option InterfaceNames → List KnownDesign
+with_names known n names = with_item known_name known (record { name = n; names = names })
+
+abbrev pub with_design : List KnownDesign → List ℕ → List Word → Design → List KnownDesign
+with_design known n ws (is_design.Module keyword definition) = with_names known n None
+with_design known n ws (is_design.Interface keyword definition) = with_names known n (Some (interface_names ws definition.value))
+with_design known n ws (is_design.Package unit) = known
+
+abbrev pub with_design_in : List KnownDesign → List ℕ → List Word → Option Design → List KnownDesign
+with_design_in known n ws None = known
+with_design_in known n ws (Some design) = with_design known n ws design
+
+abbrev pub with_design_of : List KnownDesign → List ℕ → Element → List KnownDesign
+with_design_of known n e = with_design_in known n e.words.items e.design
+
+abbrev pub with_element : List KnownDesign → List ℕ → Option Element → List KnownDesign
+with_element known n None = known
+with_element known n (Some e) = with_design_of known n e
 
 -- a name more: its definition is asked for, where the design has one of it, and once
 abbrev pub definition_asked : List ℕ → Def → List KnownDesign → Plan Reply (List KnownDesign)
-definition_asked n def known = and_then (ask (ElementOf def.file def.chunk)) (λ e. Give (with_kind known n (element_kind e)))
+definition_asked n def known = and_then (ask (ElementOf def.file def.chunk)) (λ e. Give (with_element known n e))
 
 abbrev pub asked_at : List ℕ → Option Def → List KnownDesign → Plan Reply (List KnownDesign)
 asked_at n None known = Give known

@@ -1,4 +1,5 @@
 pub mod Beginnings
 pub mod Names
 pub mod Kinds
+pub mod Faces
 pub mod Designs

@@ -4,9 +4,12 @@
 
 mod beginnings;
 mod designs;
+mod faces;
 mod kinds;
 mod names;
+mod own;
 
 pub use designs::{Designs, designs_named};
 pub use kinds::KnownDesign;
 pub use names::instantiations;
+pub use own::own_names;

@@ -11,15 +11,16 @@ use sve_bytes::{Dir, NoMemory};
 use sve_lint::{InstanceFacts, UnconnectedPort};
 use sve_listed::{Unread, parted};
 use sve_row::{offset_of, spell};
-use sve_survey::{instances_for_lint, notes_of_instances};
+use sve_survey::{instances_for_lint, notes_of_instances, surveyed_instances};
 
 /// The answer to a row `notes`.
 pub fn notes_row(alloc: Global, row: &str) -> Result<String, Unread> {
     let (budget, mut bodies) = parted(alloc, row)?;
     let budget = offset_of(budget).ok_or(Unread::NoForm)?;
-    let Some(notes) = notes_of_instances(alloc, &mut bodies, budget)? else {
+    let Some(instances) = surveyed_instances(alloc, &mut bodies, budget)? else {
         return Ok(String::from_str(alloc, "spent")?);
     };
+    let notes = notes_of_instances(alloc, instances.as_slice())?;
     let count = notes.len();
     let mut out = format!(in alloc; "{count} notes")?;
     for note in &notes {

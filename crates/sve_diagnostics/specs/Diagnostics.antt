@@ -13,14 +13,16 @@ use Rattle.sve_known.specs.Packages.{Known}
 use Rattle.sve_front.specs.declared.unit.Unit.{Unit}
 use Rattle.sve_front.specs.Places.{token_place_in}
 use Rattle.sve_survey.specs.Notes.{notes_of}
+use Rattle.sve_survey.specs.Surveyed.{SurveyedValue, surveyed_of}
 use Rattle.sve_survey.specs.Visitors.{given_by_all}
+use Rattle.sve_diagnostics.specs.Missing.{all_missing}
 
 -- what a note says, where its token has a place
 abbrev pub diags_at : Note → Option Place → List Diag
 diags_at note None = []
 diags_at note (Some place) = record { place = place; code = note.code; arg = note.arg } ∷ []
 
--- Of a body it is not told yet that a hierarchical name is not found, since a name that stands for nothing there may be found around the instance (23.8).
+-- Of a body a note with N10 says no more than that the first of several names stands for nothing there: it may be found around the instance (23.8).
 abbrev pub is_told : Code → Bool
 is_told N10 = false
 is_told code = true
@@ -38,17 +40,18 @@ module _ (units : List Unit) where
   package_diags known = flat_map note_diags known.facts.notes
 
   -- What there is to say of texts, what these notes of an index say, the notes of each of these packages, and of the instances, of which the last are
-  -- the notes.
-  unfoldable pub gathered : List Diag → List Note → List Known → List Note → List Diag
-  gathered texts index packages notes = ((texts ++ flat_map note_diags index) ++ flat_map package_diags packages) ++ flat_map told_diags notes
+  -- the notes and what is said of hierarchical names.
+  unfoldable pub gathered : List Diag → List Note → List Known → List Note → List Note → List Diag
+  gathered texts index packages notes missing =
+      (((texts ++ flat_map note_diags index) ++ flat_map package_diags packages) ++ flat_map told_diags notes) ++ flat_map note_diags missing
 
   -- the same in order, each once
-  abbrev pub all_diags : List Diag → List Note → List Known → List Note → List Diag
-  all_diags texts index packages notes = ordered diag_cmp (gathered texts index packages notes)
+  abbrev pub all_diags : List Diag → List Note → List Known → List SurveyedValue → List Diag
+  all_diags texts index packages instances = ordered diag_cmp (gathered texts index packages (flat_map notes_of instances) (all_missing instances))
 
-  abbrev pub with_notes : List Diag → List Note → List Known → Option (List Note) → Option (List Diag)
-  with_notes texts index packages notes = option_map (all_diags texts index packages) notes
+  abbrev pub with_instances : List Diag → List Note → List Known → Option (List SurveyedValue) → Option (List Diag)
+  with_instances texts index packages instances = option_map (all_diags texts index packages) instances
 
   -- all diagnostics of a design, where the budget is enough for its instances
   abbrev pub diagnostics : List Diag → List Note → List Known → Design → ℕ → Option (List Diag)
-  diagnostics texts index packages design budget = with_notes texts index packages (given_by_all notes_of design budget)
+  diagnostics texts index packages design budget = with_instances texts index packages (given_by_all surveyed_of design budget)

@@ -5,35 +5,35 @@ ghost use Rattle.sve_facts.specs.Bodies.{Design, IsOf};
 ghost use Rattle.sve_design.specs.Paying.{walk_asks};
 ghost use Rattle.sve_design.specs.Halts.{HaltedAmong};
 ghost use Rattle.sve_front.specs.Readings.{AreCut};
-ghost use Rattle.sve_diagnostics.specs.Diagnostics.{diagnostics, with_notes};
+ghost use Rattle.sve_diagnostics.specs.Diagnostics.{diagnostics, with_instances};
 
 use crate::gathering::all_diags;
 use crate::reading::Readings;
 use std::alloc::Global;
 use sve_bytes::{List, NoMemory};
-use sve_diag::{Diag, Note};
+use sve_diag::Diag;
 use sve_facts::Bodies;
 use sve_io::Halt;
-use sve_survey::notes_of_instances;
+use sve_survey::{Surveyed, surveyed_instances};
 
-/// All diagnostics, where the instances have these notes.
-fn with_notes(
+/// All diagnostics, where these are the instances.
+fn with_instances(
     alloc: Global,
     read: Readings<'_>,
-    notes: &Option<Vec<Note>>,
+    instances: &Option<Vec<Surveyed>>,
 ) -> Result<Option<List<Diag>>, NoMemory>
     requires { AreCut read.units.now }
-    ensures { IfOk result (λ diags. diags ≡ with_notes read.entry.units.now read.entry.texts.now read.entry.index.now read.entry.packages.now (option_map (λ notes. notes.items) notes.now)) }
+    ensures { IfOk result (λ diags. diags ≡ with_instances read.entry.units.now read.entry.texts.now read.entry.index.now read.entry.packages.now (option_map (λ instances. instances.items) instances.now)) }
 {
-    match notes {
-        Some(notes) => Ok(Some(all_diags(alloc, read, notes)?)),
+    match instances {
+        Some(instances) => Ok(Some(all_diags(alloc, read, instances)?)),
         None => Ok(None),
     }
 }
 
-/// All diagnostics of a design: of the texts of its files, of its index, of its packages, whatever imports them, and of the bodies of its
-/// instances, in the order of files, places, codes and arguments, each once; none where the instances cost more than the budget: each costs
-/// one, and what its body costs. It is not told yet which hierarchical names are not found (IEEE 1800-2017, 23.8).
+/// All diagnostics of a design: of the texts of its files, of its index, of its packages, whatever imports them, of the bodies of its
+/// instances, and of the hierarchical names in these that are not found among all instances (IEEE 1800-2017, 23.8), in the order of files,
+/// places, codes and arguments, each once; none where the instances cost more than the budget: each costs one, and what its body costs.
 ///
 /// # Errors
 /// `Stopped` where the bodies stopped, or `NoMemory`.
@@ -61,6 +61,6 @@ pub fn diagnostics<B: Bodies>(
     ensures stopped { IfErr result (HasStopped (B.stops bodies.old) (B.stops bodies.new)) }
     ensures not_stopped { OnOk result (B.stops bodies.new ≡ B.stops bodies.old) }
 {
-    let notes = notes_of_instances(alloc, bodies, budget)?;
-    Ok(with_notes(alloc, read, &notes)?)
+    let instances = surveyed_instances(alloc, bodies, budget)?;
+    Ok(with_instances(alloc, read, &instances)?)
 }

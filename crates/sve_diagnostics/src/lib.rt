@@ -3,6 +3,7 @@
 
 mod diagnosing;
 mod gathering;
+mod missing;
 mod placing;
 mod reading;
 

@@ -10,7 +10,9 @@ use Rattle.sve_tree.specs.Elements.{element_definition}
 use Rattle.sve_index.specs.declared.def.Def.{Def}
 use Rattle.sve_index.specs.declared.whole.Index.{Index}
 use Rattle.sve_index.specs.Defs.{def_name}
-use Rattle.sve_spec.specs.Specialization.{Specialization}
+use Rattle.sve_spec.specs.declared.spec.FaceGiven.{FaceGiven}
+use Rattle.sve_spec.specs.declared.spec.Spec.{Spec}
+use Rattle.sve_scope.specs.declared.interface.InterfaceNames.{InterfaceNames}
 use Rattle.sve_spec.specs.declared.given.Given.{Given}
 use Rattle.sve_facts.specs.Facts.{no_facts}
 use Rattle.sve_imports.specs.Naming.{own_words, packages_in, unit_words}
@@ -27,7 +29,7 @@ use Rattle.sve_body.specs.Items.{header}
 use Rattle.sve_body.specs.Body.{counted_item}
 use Rattle.sve_design_kinds.specs.declared.kinds.KnownDesign.{KnownDesign}
 use Rattle.sve_design_kinds.specs.Names.{header_names}
-use Rattle.sve_design_kinds.specs.Kinds.{asked_at, element_kind, sought, with_kind, with_name, with_token}
+use Rattle.sve_design_kinds.specs.Kinds.{asked_at, sought, with_element as and_element, with_name, with_token}
 use Rattle.sve_design_kinds.specs.Designs.{Designs, designs_by, designs_named}
 use Rattle.sve_elaboration.specs.Ends.{begun_body, facts_of}
 use Rattle.sve_elaboration.specs.Elaborating.{elaborating}
@@ -35,7 +37,7 @@ use Rattle.sve_unit_scope.specs.Elements.{ChunkElement, element_of, elements_bef
 use Rattle.sve_unit_scope.specs.Packages.{is_sought, packages_named, with_facts, with_package, with_packages, with_unit_packages}
 use Rattle.sve_unit_scope.specs.Units.{unit_of}
 use Rattle.sve_elaborate.specs.declared.extent.Extent.TheVariants as is_extent
-use Rattle.sve_elaborate.specs.Bodies.{IsNoPorts, at_definition, at_place, body_in, definition_of, elaborated_to, header_ports, instantiations_to, of_definition, of_element, of_tree, ports_of, values_of, within}
+use Rattle.sve_elaborate.specs.Bodies.{IsNoPorts, at_definition, at_place, body_in, elaborated_to, header_ports, instantiations_to, of_definition, of_element, of_tree, ports_of, within}
 
 -- ---- plans in general
 
@@ -91,23 +93,23 @@ named_only index es own =
 
 asked_only : (n : List ℕ) (def : Option Def) (known : List KnownDesign) → AsksOnly IsNoPorts (asked_at n def known)
 asked_only n None known = give_only Reply IsNoPorts known
-asked_only n (Some def) known = ask_only IsNoPorts (ElementOf def.file def.chunk) (λ e. Give (with_kind known n (element_kind e))) tt (λ e. give_only Reply IsNoPorts (with_kind known n (element_kind e)))
+asked_only n (Some def) known = ask_only IsNoPorts (ElementOf def.file def.chunk) (λ e. Give (and_element known n e)) tt (λ e. give_only Reply IsNoPorts (and_element known n e))
 
 name_only : (index : Index) (n : Option (List ℕ)) (known : List KnownDesign) → AsksOnly IsNoPorts (with_name index n known)
 name_only index None known = give_only Reply IsNoPorts known
 name_only index (Some n) known = asked_only n (sought index known n) known
 
-designs_only : (index : Index) (ws : List Word) (h : Header) (tokens : List ℕ) → AsksOnly IsNoPorts (designs_named index ws h tokens)
-designs_only index ws h tokens =
-    asks_only_then IsNoPorts (each (with_token index ws) (header_names h ++ tokens) []) (λ kinds. Give (designs_by ws tokens kinds))
-    (each_only IsNoPorts (with_token index ws) (header_names h ++ tokens) [] (λ t known. name_only index (name_at ws t) known)) (λ kinds. give_only Reply IsNoPorts (designs_by ws tokens kinds))
+designs_only : (index : Index) (ws : List Word) (h : Header) (tokens : List ℕ) (own : Option InterfaceNames) (given : List FaceGiven) → AsksOnly IsNoPorts (designs_named index ws h tokens own given)
+designs_only index ws h tokens own given =
+    asks_only_then IsNoPorts (each (with_token index ws) (header_names h ++ tokens) []) (λ kinds. Give (designs_by ws tokens own given kinds))
+    (each_only IsNoPorts (with_token index ws) (header_names h ++ tokens) [] (λ t known. name_only index (name_at ws t) known)) (λ kinds. give_only Reply IsNoPorts (designs_by ws tokens own given kinds))
 
-module _ (index : Index) (spec : Specialization) (def : Def) where
+module _ (index : Index) (spec : Spec) (def : Def) where
   definition_only : (packages : List Known) (es : List ChunkElement) (own : Element) (d : Option Definition) → AsksOnly IsNoPorts (of_definition is_extent.Header index packages spec def es own d)
   definition_only packages es own None = give_only Reply IsNoPorts no_facts
   definition_only packages es own (Some d) =
-      asks_only_then IsNoPorts (designs_named index own.words.items d.header (instantiations_to is_extent.Header own)) (λ designs. within is_extent.Header packages designs spec def es own d)
-      (designs_only index own.words.items d.header (instantiations_to is_extent.Header own)) (λ designs. body_only packages own.words.items designs (values_of spec) (entered (unit_of readings packages def.file def.chunk es own)) d)
+      asks_only_then IsNoPorts (designs_named index own.words.items d.header (instantiations_to is_extent.Header own) None spec.faces) (λ designs. within is_extent.Header packages designs spec def es own d)
+      (designs_only index own.words.items d.header (instantiations_to is_extent.Header own) None spec.faces) (λ designs. body_only packages own.words.items designs spec.values (entered (unit_of readings packages def.file def.chunk es own)) d)
 
   tree_only : (es : List ChunkElement) (own : Element) → AsksOnly IsNoPorts (of_tree is_extent.Header index spec def es own)
   tree_only es own =
@@ -122,13 +124,13 @@ module _ (index : Index) (spec : Specialization) (def : Def) where
       asks_only_then IsNoPorts (elements_before def.file def.chunk) (λ es. and_then (ask (ElementOf def.file def.chunk)) (of_element is_extent.Header index spec def es)) (elements_only def.file def.chunk)
       (λ es. ask_only IsNoPorts (ElementOf def.file def.chunk) (of_element is_extent.Header index spec def es) tt (element_only es))
 
-place_only : (index : Index) (spec : Specialization) (def : Option Def) → AsksOnly IsNoPorts (at_place is_extent.Header index spec def)
+place_only : (index : Index) (spec : Spec) (def : Option Def) → AsksOnly IsNoPorts (at_place is_extent.Header index spec def)
 place_only index spec None = give_only Reply IsNoPorts no_facts
 place_only index spec (Some def) = definition_place_only index spec def
 
-pub headers_only : (spec : Specialization) → AsksOnly IsNoPorts (header_ports spec)
+pub headers_only : (spec : Spec) → AsksOnly IsNoPorts (header_ports spec)
 unfolding elaborated_to header_ports
 headers_only spec =
     asks_only_then IsNoPorts (elaborated_to is_extent.Header spec) (λ facts. Give (ports_of facts))
-    (ask_only IsNoPorts IndexOf (λ index. at_place is_extent.Header index spec (item_of def_name (definition_of spec) index.definitions)) tt (λ index. place_only index spec (item_of def_name (definition_of spec) index.definitions)))
+    (ask_only IsNoPorts IndexOf (λ index. at_place is_extent.Header index spec (item_of def_name spec.definition index.definitions)) tt (λ index. place_only index spec (item_of def_name spec.definition index.definitions)))
     (λ facts. give_only Reply IsNoPorts (ports_of facts))

@@ -6,13 +6,12 @@ ghost use Rattle.sve_index.specs.Defs.{def_name};
 ghost use Rattle.sve_plan.specs.Follows.{Follows};
 ghost use Rattle.sve_look.specs.Questions.{element_in};
 ghost use Rattle.sve_tree.specs.Elements.{element_definition};
-ghost use Rattle.sve_elaborate.specs.Bodies.{at_definition, at_place, definition_of, elaborated_to, in_designs, of_definition, of_element, of_tree, values_of, within};
+ghost use Rattle.sve_elaborate.specs.Bodies.{at_definition, at_place, elaborated_to, in_designs, of_definition, of_element, of_tree, within};
 
 use crate::extent::Extent;
 use crate::within::{body_in, scope_in_unit};
 use std::alloc::Global;
 use std::sync::Arc;
-use sve_bytes::Name;
 use sve_design_kinds::{Designs, designs_named};
 use sve_facts::Facts;
 use sve_function::Constants;
@@ -22,24 +21,10 @@ use sve_look::Look;
 use sve_plan::{Fuel, Stop};
 use sve_question::{ask_element, ask_index};
 use sve_scoped::Text;
-use sve_spec::{Given, Spec};
+use sve_spec::Spec;
 use sve_table::Table;
 use sve_tree::{Definition, Element};
 use sve_unit_scope::{ChunkElement, add_packages_named, elements_before};
-
-/// The name of the module or the interface.
-fn definition_of(spec: &Spec) -> &Name
-    ensures { result.now ≡ definition_of spec.now }
-{
-    &spec.definition
-}
-
-/// What the parameters of a specialization are given.
-fn values_of(spec: &Spec) -> &[Given]
-    ensures { result.now ≡ values_of spec.now }
-{
-    spec.values.items()
-}
 
 /// The body of a definition, over the packages that are known, the elements in front of its own, and what the modules and interfaces are that
 /// it names.
@@ -71,7 +56,7 @@ fn within<W: Look>(
         extent,
         text,
         designs,
-        values_of(spec),
+        spec.values.items(),
         contents,
         definition,
         world,
@@ -97,9 +82,21 @@ fn in_designs<W: Look>(
     ensures { Follows (record { tells = W.tells; keeps = W.keeps; halted = W.halted; stops = W.stops; asked = W.asked }) world.old world.new fuel.old fuel.new (in_designs extent index.now packages.now spec.now def.now elements.now own.now definition.now) result }
 {
     let instantiations = extent.instantiations(alloc, own)?;
+    let names = extent.own_names(alloc, own)?;
+    let faces = spec.faces.items();
     let words = own.words.as_slice();
     let header = &definition.header;
-    let designs = designs_named(alloc, index, words, header, instantiations, world, fuel)?;
+    let designs = designs_named(
+        alloc,
+        index,
+        words,
+        header,
+        instantiations,
+        names,
+        faces,
+        world,
+        fuel,
+    )?;
     within(
         alloc, extent, packages, &designs, spec, def, elements, own, definition, world, fuel,
     )
@@ -205,9 +202,9 @@ fn at_definition<W: Look>(
 
 /// Where the definition of a specialization stands.
 fn place_of<'a>(index: &'a Index, spec: &Spec) -> Option<&'a Def>
-    ensures { option_map (λ d. d.now) result ≡ item_of def_name (definition_of spec.now) index.now.definitions }
+    ensures { option_map (λ d. d.now) result ≡ item_of def_name spec.now.definition index.now.definitions }
 {
-    index.definitions.get(definition_of(spec))
+    index.definitions.get(&spec.definition)
 }
 
 /// The body of a specialization, by where its definition stands.
@@ -220,7 +217,7 @@ fn at_place<W: Look>(
     fuel: &mut Fuel,
 ) -> Result<Facts, Stop>
     requires { IsFuel fuel.old }
-    ensures { Follows (record { tells = W.tells; keeps = W.keeps; halted = W.halted; stops = W.stops; asked = W.asked }) world.old world.new fuel.old fuel.new (at_place extent index.now spec.now (item_of def_name (definition_of spec.now) index.now.definitions)) result }
+    ensures { Follows (record { tells = W.tells; keeps = W.keeps; halted = W.halted; stops = W.stops; asked = W.asked }) world.old world.new fuel.old fuel.new (at_place extent index.now spec.now (item_of def_name spec.now.definition index.now.definitions)) result }
 {
     match place_of(index, spec) {
         Some(def) => at_definition(alloc, extent, index, spec, def, world, fuel),

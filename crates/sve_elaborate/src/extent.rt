@@ -1,9 +1,10 @@
 ghost use Rattle.std.specs.Prelude.{◌≡◌, IfOk};
-ghost use Rattle.sve_elaborate.specs.Bodies.{instantiations_to, items_to};
+ghost use Rattle.sve_elaborate.specs.Bodies.{instantiations_to, items_to, own_to};
 
 use std::alloc::Global;
 use sve_bytes::NoMemory;
-use sve_design_kinds::instantiations;
+use sve_design_kinds::{instantiations, own_names};
+use sve_scope::InterfaceNames;
 use sve_tree::{Definition, Element, Item};
 
 /// How far the text of a module or an interface is gone over.
@@ -37,6 +38,20 @@ impl Extent {
         match self {
             Extent::Header => Ok(Vec::new(alloc)),
             Extent::Whole => instantiations(alloc, element),
+        }
+    }
+
+    /// The names of the definition itself, where it is an interface whose items are gone over.
+    pub(crate) fn own_names(
+        self,
+        alloc: Global,
+        element: &Element,
+    ) -> Result<Option<InterfaceNames>, NoMemory>
+        ensures { IfOk result (λ names. names ≡ own_to self element.now) }
+    {
+        match self {
+            Extent::Header => Ok(None),
+            Extent::Whole => own_names(alloc, element),
         }
     }
 }

@@ -9,22 +9,20 @@ use Rattle.sve_tree.specs.declared.declaration.Typedef.{Typedef}
 use Rattle.sve_tree.specs.declared.declaration.VariableDeclaration.{VariableDeclaration}
 use Rattle.sve_tree.specs.declared.header.Header.{Header}
 use Rattle.sve_tree.specs.declared.statement.Func.{Func}
-use Rattle.sve_scope.specs.declared.what.What.TheVariants as is_what
 use Rattle.sve_plan.specs.Plan.{Counted}
 use Rattle.sve_scoped.specs.Known.{told_in}
-use Rattle.sve_scoped.specs.Said.{declared_at}
 use Rattle.sve_formal.specs.Formals.{is_local_keyword}
 use Rattle.sve_header.specs.declared.parameters.HeaderParameters.{HeaderParameters}
 use Rattle.sve_header.specs.declared.ports.HeaderPorts.{HeaderPorts}
 use Rattle.sve_header.specs.Imports.{with_header_imports, with_import}
 use Rattle.sve_header.specs.Parameters.{with_header_parameters}
-use Rattle.sve_header.specs.Ports.{with_header_ports}
 use Rattle.sve_body_parameter.specs.declared.overridable.Overridable.{Overridable}
 use Rattle.sve_body_parameter.specs.Overridable.{with_overridable}
 use Rattle.sve_body_parameter.specs.Nodes.{overridable_nodes}
 use Rattle.sve_counted_item.specs.Counted.{counted_data, counted_function, counted_nets, counted_parameters, counted_typedef, counted_variables}
 use Rattle.sve_elaboration.specs.State.{Found}
-use Rattle.sve_elaboration.specs.Scopes.{contents_of, costing, depth_in, kinds_of, known_in, packages_of, with_contents, words_of}
+use Rattle.sve_elaboration.specs.Modports.{ports_known, with_modport}
+use Rattle.sve_elaboration.specs.Scopes.{contents_of, costing, depth_in, known_in, packages_of, with_contents, words_of}
 
 -- ---- the header
 
@@ -41,7 +39,7 @@ abbrev pub with_ports : Found → HeaderPorts → Found
 with_ports s p = record (with_contents s p.contents) { ports = p.ports }
 
 abbrev pub header_ports_in : Header → Found → Counted Found
-header_ports_in h s = costing (with_ports s) (with_header_ports (told_in (packages_of s) (words_of s)) (words_of s) (kinds_of s) (contents_of s) h)
+header_ports_in h s = costing (with_ports s) (ports_known (told_in (packages_of s) (words_of s)) (words_of s) s.designs (contents_of s) h)
 
 -- ---- parameters
 
@@ -81,6 +79,5 @@ variables_in d s = costing (with_contents s) (counted_variables (packages_of s) 
 abbrev pub data_in : DataDeclaration → Found → Counted Found
 data_in d s = costing (with_contents s) (counted_data (packages_of s) (words_of s) (contents_of s) d)
 
--- its members are not looked at
 abbrev pub modport_in : Modport → Found → Found
-modport_in m s = with_contents s (declared_at (words_of s) (contents_of s) m.name is_what.Modport m.name)
+modport_in m s = with_contents s (with_modport (words_of s) s.designs (contents_of s) m)

@@ -1,6 +1,8 @@
 pub mod State
+pub mod Hierarchical
 pub mod Scopes
 pub mod Names
+pub mod Modports
 pub mod Declarations
 pub mod Instances
 pub mod Elaborating

@@ -1,5 +1,5 @@
 -- The scopes of a body, as far as its text was gone over (IEEE 1800-2017, 23.9 and clause 27).
-use Rattle.std.specs.Prelude.{ℕ, ℤ, List, [], ◌∷◌, length, Option}
+use Rattle.std.specs.Prelude.{ℕ, ℤ, Bool, List, [], ◌∷◌, length, Option}
 use Rattle.sve_fault.specs.declared.fault.Fault.{Fault}
 use Rattle.sve_tree.specs.declared.token_word.Word.{Word}
 use Rattle.sve_tree.specs.declared.item.Item.{Item}
@@ -18,11 +18,11 @@ use Rattle.sve_nested.specs.Blocks.{entered_in, left_in}
 use Rattle.sve_nested.specs.Labels.{counted_in, label_fault_in}
 use Rattle.sve_nested.specs.Genvars.{declaring_genvar, genvar_fault_in}
 use Rattle.sve_known.specs.Naming.{name_at}
-use Rattle.sve_port.specs.declared.interfaces.DesignKind.{DesignKind}
-use Rattle.sve_design_kinds.specs.Designs.{interface_of, kind_named}
+use Rattle.sve_design_kinds.specs.Designs.{interface_of, modport_of}
 use Rattle.sve_plan.specs.Plan.{Counted}
 use Rattle.sve_body.specs.Body.{block_label}
 use Rattle.sve_elaboration.specs.State.{Found}
+use Rattle.sve_elaboration.specs.Hierarchical.{uses_kept}
 
 -- ---- where the text stands
 
@@ -32,12 +32,12 @@ packages_of s = s.packages
 abbrev pub words_of : Found → List Word
 words_of s = s.words
 
--- what a name is, and of which interface an instance is
-abbrev pub kinds_of : Found → List ℕ → Option DesignKind
-kinds_of s = kind_named s.designs
-
+-- of which interface an instance is, and which modports that has
 abbrev pub interfaces_of : Found → Declared → Option (List ℕ)
 interfaces_of s = interface_of s.designs
+
+abbrev pub modports_of : Found → Declared → List ℕ → Bool
+modports_of s = modport_of s.designs
 
 abbrev pub contents_of : Found → Contents
 contents_of s = s.nested.contents
@@ -83,8 +83,14 @@ block_items (is_generate_block.Block' _ begin label _ items end last) = items-th
 block_items (is_generate_block.Item' _ i) = i ∷ []
 
 -- what a block declares further on is announced in it
+abbrev pub into_block : ℕ → Option (ℕ × ℤ) → GenerateBlock → Found → Found
+into_block number turn block s = with_nested s (entered_in (words_of s) s.nested number turn (block_label block) (ahead_in (words_of s) [] (block_items block)))
+
 abbrev pub entered_block : ℕ → Option (ℕ × ℤ) → GenerateBlock → Found → Found
-entered_block number turn block s = with_nested s (entered_in (words_of s) s.nested number turn (block_label block) (ahead_in (words_of s) [] (block_items block)))
+entered_block number turn block s = into_block number turn block (uses_kept s)
+
+abbrev pub out_of_block : Found → Found
+out_of_block s = with_nested s (left_in s.nested)
 
 abbrev pub left_block : Found → Found
-left_block s = with_nested s (left_in s.nested)
+left_block s = out_of_block (uses_kept s)

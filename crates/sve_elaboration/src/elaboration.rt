@@ -2,6 +2,8 @@
 ghost use Rattle.std.specs.Prelude.{◌≡◌, IfOk};
 ghost use Rattle.sve_item_names.specs.Declarations.{header_headings};
 ghost use Rattle.sve_ahead.specs.Ahead.{ahead_in};
+ghost use Rattle.sve_contents.specs.Reading.{without_dotted};
+ghost use Rattle.sve_nested.specs.Blocks.{begun};
 ghost use Rattle.sve_elaboration.specs.Ends.{begun_body, facts_of};
 
 use std::alloc::Global;
@@ -10,7 +12,7 @@ use sve_ahead::{Ahead, seen_ahead};
 use sve_bytes::{List, NoMemory};
 use sve_contents::Contents;
 use sve_design_kinds::Designs;
-use sve_facts::{Child, Facts, ImplicitNet, ParameterValue, Port};
+use sve_facts::{Child, Facts, HierarchicalUse, ImplicitNet, ParameterValue, Port};
 use sve_item_names::header_names;
 use sve_nested::{Nested, Scopes};
 use sve_param::Override;
@@ -34,6 +36,7 @@ pub struct Elaboration<'a> {
     pub(crate) ports: List<Port>,
     pub(crate) children: Vec<Child>,
     pub(crate) nets: Vec<ImplicitNet>,
+    pub(crate) hierarchical: Vec<HierarchicalUse>,
 }
 
 impl<'a> Model for Elaboration<'a> {
@@ -56,6 +59,7 @@ impl<'a> Model for Elaboration<'a> {
       ports = s.ports;
       children = s.children.items;
       nets = s.nets.items;
+      hierarchical = s.hierarchical.items;
     } };
 }
 
@@ -65,6 +69,15 @@ fn ahead_of(alloc: Global, words: &[Word], definition: &Definition) -> Result<Ah
 {
     let headings = header_names(alloc, &definition.header)?;
     seen_ahead(alloc, words, headings.as_slice(), &definition.items)
+}
+
+/// The scopes of a body that begins. Hierarchical names that were used around it are none of its own.
+fn nested_begun(alloc: Global, contents: Contents, ahead: Ahead) -> Result<Nested, NoMemory>
+    ensures { IfOk result (λ n. n ≡ begun (without_dotted contents) ahead) }
+{
+    let mut contents = contents;
+    let _ = contents.take_dotted(alloc);
+    Nested::begun(alloc, contents, ahead)
 }
 
 impl<'a> Elaboration<'a> {
@@ -85,7 +98,7 @@ impl<'a> Elaboration<'a> {
         ensures { IfOk result (λ s. s ≡ begun_body text.entry.packages.now text.entry.words.now designs.now given.now contents definition.now) }
     {
         let ahead = ahead_of(alloc, text.words, definition)?;
-        let nested = Nested::begun(alloc, contents, ahead)?;
+        let nested = nested_begun(alloc, contents, ahead)?;
         Ok(Elaboration {
             alloc,
             text,
@@ -99,6 +112,7 @@ impl<'a> Elaboration<'a> {
             ports: List::of(Vec::new(alloc)),
             children: Vec::new(alloc),
             nets: Vec::new(alloc),
+            hierarchical: Vec::new(alloc),
         })
     }
 
@@ -109,6 +123,8 @@ impl<'a> Elaboration<'a> {
     pub fn into_facts(self) -> Result<Facts, NoMemory>
         ensures { IfOk result (λ f. f ≡ facts_of self.entry) }
     {
+        let mut elaboration = self;
+        elaboration.keep_uses()?;
         let Elaboration {
             alloc,
             text: _,
@@ -122,14 +138,15 @@ impl<'a> Elaboration<'a> {
             ports,
             children,
             nets,
-        } = self;
+            hierarchical,
+        } = elaboration;
         let Scopes { scopes, notes } = nested.finished(alloc)?;
         Ok(Facts {
             scopes,
             params: List::of(values),
             ports,
             children: List::of(children),
-            hierarchical: List::of(Vec::new(alloc)),
+            hierarchical: List::of(hierarchical),
             nets: List::of(nets),
             notes,
         })

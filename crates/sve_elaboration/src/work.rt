@@ -5,14 +5,16 @@ ghost use Rattle.sve_plan.specs.Follows.{Meters, leaving};
 ghost use Rattle.sve_elaboration.specs.Declarations.{can_be_overridden, local_parameters_in, overridable_in};
 
 use crate::elaboration::Elaboration;
+use crate::modports::with_modport;
 use crate::parts::{add_one, block_entered, is_failing, taken_nested};
+use crate::ports::ports_known;
 use std::sync::Arc;
 use sve_body::{Place, Work};
 use sve_body_parameter::{Overridable, count_overridable, with_overridable};
 use sve_bytes::{Name, NetType, NoMemory};
 use sve_child::{
     Implied, Placed, implied_net, net_tokens, net_tokens_of_none, place_named, specialized_in,
-    stands_for_something, undefined, with_child, with_no_child,
+    stands_for_something, token_said, with_child, with_no_child,
 };
 use sve_counted_item::{
     data_in, function_in, nets_in, parameters_in, statement_in, typedef_in, variables_in,
@@ -21,15 +23,11 @@ use sve_diag::Code;
 use sve_facts::Port;
 use sve_fault::{Fault, Fuel, Halted};
 use sve_formal::is_local_keyword;
-use sve_header::{
-    HeaderParameters, HeaderPorts, with_header_imports, with_header_parameters, with_header_ports,
-};
+use sve_header::{HeaderParameters, HeaderPorts, with_header_imports, with_header_parameters};
 use sve_index::Index;
 use sve_item_names::ItemName;
 use sve_known::text_at;
 use sve_override::{Overridden, Specialized, with_overrides};
-use sve_scope::What;
-use sve_scoped::declared_at;
 use sve_spec::Spec;
 use sve_tree::{
     DataDeclaration, Element, EventControl, Func, GenerateBlock, Header, Import, Instance, Modport,
@@ -150,7 +148,7 @@ impl<'a> Work for Elaboration<'a> {
 
     fn header_ports(&mut self, header: &Header, fuel: &mut Fuel) -> Result<(), Halted> {
         let contents = taken_out(self.alloc, &mut self.nested.contents)?;
-        let found = with_header_ports(self.alloc, self.text, self.designs, contents, header, fuel)?;
+        let found = ports_known(self.alloc, self.text, self.designs, contents, header, fuel)?;
         let HeaderPorts { contents, ports } = found;
         self.nested.contents = contents;
         self.ports = ports;
@@ -216,8 +214,7 @@ impl<'a> Work for Elaboration<'a> {
 
     fn modport(&mut self, modport: &Modport) -> Result<(), NoMemory> {
         let contents = taken_out(self.alloc, &mut self.nested.contents)?;
-        let name = modport.name;
-        self.nested.contents = declared_at(self.text.words, contents, name, What::Modport, name)?;
+        self.nested.contents = with_modport(self.text.words, contents, self.designs, modport)?;
         Ok(())
     }
 
@@ -265,12 +262,14 @@ impl<'a> Work for Elaboration<'a> {
         turn: Option<(u32, i32)>,
         block: &GenerateBlock,
     ) -> Result<(), NoMemory> {
+        self.keep_uses()?;
         let nested = taken_nested(self.alloc, &mut self.nested)?;
         self.nested = block_entered(self.alloc, self.text.words, nested, number, turn, block)?;
         Ok(())
     }
 
     fn leave(&mut self) -> Result<(), NoMemory> {
+        self.keep_uses()?;
         let nested = taken_nested(self.alloc, &mut self.nested)?;
         self.nested = nested.left(self.alloc)?;
         Ok(())
@@ -294,7 +293,7 @@ impl<'a> Work for Elaboration<'a> {
 
     fn no_definition(&mut self, token: u32) -> Result<(), NoMemory> {
         let contents = taken_out(self.alloc, &mut self.nested.contents)?;
-        self.nested.contents = undefined(self.text.words, contents, token)?;
+        self.nested.contents = token_said(self.text.words, contents, Code::N09, token)?;
         Ok(())
     }
 

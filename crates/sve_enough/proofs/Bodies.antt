@@ -16,7 +16,9 @@ use Rattle.sve_index.specs.declared.def.Def.{Def}
 use Rattle.sve_index.specs.declared.whole.Index.{Index}
 use Rattle.sve_index.specs.Defs.{def_name}
 use Rattle.sve_table.specs.Tables.{item_of}
-use Rattle.sve_spec.specs.Specialization.{Specialization}
+use Rattle.sve_spec.specs.declared.spec.FaceGiven.{FaceGiven}
+use Rattle.sve_spec.specs.declared.spec.Spec.{Spec}
+use Rattle.sve_scope.specs.declared.interface.InterfaceNames.{InterfaceNames}
 use Rattle.sve_spec.specs.declared.given.Given.{Given}
 use Rattle.sve_facts.specs.Facts.{no_facts}
 use Rattle.sve_imports.specs.Naming.{own_words, packages_in, unit_words}
@@ -35,12 +37,11 @@ use Rattle.sve_unit_scope.specs.Elements.{ChunkElement, element_of, elements_bef
 use Rattle.sve_unit_scope.specs.Packages.{is_sought, packages_named, with_facts, with_package, with_packages, with_unit_packages}
 use Rattle.sve_design_kinds.specs.declared.kinds.KnownDesign.{KnownDesign}
 use Rattle.sve_design_kinds.specs.Names.{header_names}
-use Rattle.sve_design_kinds.specs.Kinds.{asked_at, element_kind, sought, with_kind, with_name, with_token}
+use Rattle.sve_design_kinds.specs.Kinds.{asked_at, sought, with_element as and_element, with_name, with_token}
 use Rattle.sve_design_kinds.specs.Designs.{Designs, designs_by, designs_named}
 use Rattle.sve_elaboration.specs.Ends.{begun_body, facts_of}
 use Rattle.sve_elaboration.specs.Elaborating.{elaborating}
-use Rattle.sve_elaborate.specs.Bodies.{at_place, body_in, elaborated, elaborated_to, in_designs, instantiations_to, items_to, of_definition, of_element, values_of, within}
-use Rattle.sve_elaborate.specs.Bodies.{definition_of as specialized}
+use Rattle.sve_elaborate.specs.Bodies.{at_place, body_in, elaborated, elaborated_to, in_designs, instantiations_to, items_to, of_definition, of_element, own_to, within}
 use Rattle.sve_outline.specs.Outline.{IsWhole}
 use Rattle.sve_enough.specs.Enough.{DefinitionHasNoLoop, HasNoLoop, IsEnough, IsTold, IsToldAt}
 use Rattle.sve_enough.proofs.Counts.{count, counted}
@@ -92,16 +93,16 @@ named_cost index es own =
 
 asked_cost : (n : List ℕ) (o : Option Def) (known : List KnownDesign) → CostsAtMost 0 (asked_at n o known)
 asked_cost n None known = none_costs Reply known
-asked_cost n (Some def) known = at_most_asked 0 (ElementOf def.file def.chunk) (λ e. Give (with_kind known n (element_kind e))) (λ e. none_costs Reply (with_kind known n (element_kind e)))
+asked_cost n (Some def) known = at_most_asked 0 (ElementOf def.file def.chunk) (λ e. Give (and_element known n e)) (λ e. none_costs Reply (and_element known n e))
 
 name_cost : (index : Index) (o : Option (List ℕ)) (known : List KnownDesign) → CostsAtMost 0 (with_name index o known)
 name_cost index None known = none_costs Reply known
 name_cost index (Some n) known = asked_cost n (sought index known n) known
 
-designs_cost : (index : Index) (ws : List Word) (h : Header) (instantiations : List ℕ) → CostsAtMost 0 (designs_named index ws h instantiations)
-designs_cost index ws h instantiations =
-    at_most_last 0 (each (with_token index ws) (header_names h ++ instantiations) []) (λ kinds. Give (designs_by ws instantiations kinds))
-    (at_most_none (with_token index ws) (header_names h ++ instantiations) [] (λ token known. name_cost index (name_at ws token) known)) (λ kinds. none_costs Reply (designs_by ws instantiations kinds))
+designs_cost : (index : Index) (ws : List Word) (h : Header) (instantiations : List ℕ) (own : Option InterfaceNames) (given : List FaceGiven) → CostsAtMost 0 (designs_named index ws h instantiations own given)
+designs_cost index ws h instantiations own given =
+    at_most_last 0 (each (with_token index ws) (header_names h ++ instantiations) []) (λ kinds. Give (designs_by ws instantiations own given kinds))
+    (at_most_none (with_token index ws) (header_names h ++ instantiations) [] (λ token known. name_cost index (name_at ws token) known)) (λ kinds. none_costs Reply (designs_by ws instantiations own given kinds))
 
 -- ---- a body of which all items are gone over
 
@@ -115,11 +116,11 @@ body_within extent whole told fuel packages ws designs given c d w l enough over
     not_over told fuel (4 * body_tokens d.header d.items.items) (and_then (body elaborating d.header d.items.items s) (λ t. Give (facts_of t)))
     (at_most_last (4 * body_tokens d.header d.items.items) (body elaborating d.header d.items.items s) (λ t. Give (facts_of t)) (body_costs elaborating d.header d.items.items s (body_modest elaborating steps_within d.header d.items.items w.0 w.1.0 l)) (λ t. none_costs Reply (facts_of t))) fits over_all
 
-module _ (extent : _) (whole : (d : Definition) → items_to extent d ≡ d.items.items) (told : Told Reply) (fuel : ℕ) (spec : Specialization) (def : Def) where
+module _ (extent : _) (whole : (d : Definition) → items_to extent d ≡ d.items.items) (told : Told Reply) (fuel : ℕ) (spec : Spec) (def : Def) where
   definition_within : (index : Index) (packages : List Known) (es : List ChunkElement) (own : Element) (d : Definition) → IsWhole (definition_tree d) → All HasNoLoop d.items.items → 4 * count (definition_tree d) ≤ fuel → run told fuel 0 (in_designs extent index packages spec def es own d) ≡ Over → ⊥
   definition_within index packages es own d w l enough over =
-      not_behind told fuel (designs_named index own.words.items d.header (instantiations_to extent own)) (λ designs. within extent packages designs spec def es own d) (designs_cost index own.words.items d.header (instantiations_to extent own))
-      (λ designs. body_within extent whole told fuel packages own.words.items designs (values_of spec) _ d w l enough) over
+      not_behind told fuel (designs_named index own.words.items d.header (instantiations_to extent own) (own_to extent own) spec.faces) (λ designs. within extent packages designs spec def es own d) (designs_cost index own.words.items d.header (instantiations_to extent own) (own_to extent own) spec.faces)
+      (λ designs. body_within extent whole told fuel packages own.words.items designs spec.values _ d w l enough) over
 
   design_within : (index : Index) (packages : List Known) (es : List ChunkElement) (own : Element) (design : Option Design) → IsWhole (optional_tree design_tree design) → DefinitionHasNoLoop (definition_of design) → 4 * count (optional_tree design_tree design) ≤ fuel → run told fuel 0 (of_definition extent index packages spec def es own (definition_of design)) ≡ Over → ⊥
   design_within index packages es own None w l enough over = not_given told fuel no_facts over
@@ -134,17 +135,17 @@ module _ (extent : _) (whole : (d : Definition) → items_to extent d ≡ d.item
       not_behind told fuel (packages_named index es own) (λ packages. of_definition extent index packages spec def es own (element_definition own)) (named_cost index es own)
       (λ packages. design_within index packages es own own.design e.tree.1 e.loops (omega arith)) over
 
-place_within : (extent : _) → ((d : Definition) → items_to extent d ≡ d.items.items) → (told : Told Reply) (fuel : ℕ) (index : Index) (spec : Specialization) (o : Option Def) → ((own : Element) → IsToldAt told o own → IsEnough fuel own) → run told fuel 0 (at_place extent index spec o) ≡ Over → ⊥
+place_within : (extent : _) → ((d : Definition) → items_to extent d ≡ d.items.items) → (told : Told Reply) (fuel : ℕ) (index : Index) (spec : Spec) (o : Option Def) → ((own : Element) → IsToldAt told o own → IsEnough fuel own) → run told fuel 0 (at_place extent index spec o) ≡ Over → ⊥
 place_within extent whole told fuel index spec None enough over = not_given told fuel no_facts over
 place_within extent whole told fuel index spec (Some def) enough over =
     not_behind told fuel (elements_before def.file def.chunk) (λ es. and_then (Ask (ElementOf def.file def.chunk) (λ answer. Give answer)) (of_element extent index spec def es)) (elements_cost def.file def.chunk)
     (λ es. not_asked told fuel (ElementOf def.file def.chunk) (of_element extent index spec def es) (λ o is. element_within extent whole told fuel spec def index es o (λ own same. enough own (is ∙ ap Some same)))) over
 
-of_specialization : (extent : _) → ((d : Definition) → items_to extent d ≡ d.items.items) → (spec : Specialization) (told : Told Reply) (fuel : ℕ) → ((own : Element) → IsTold told spec own → IsEnough fuel own) → run told fuel 0 (elaborated_to extent spec) ≡ Over → ⊥
+of_specialization : (extent : _) → ((d : Definition) → items_to extent d ≡ d.items.items) → (spec : Spec) (told : Told Reply) (fuel : ℕ) → ((own : Element) → IsTold told spec own → IsEnough fuel own) → run told fuel 0 (elaborated_to extent spec) ≡ Over → ⊥
 unfolding elaborated_to
 of_specialization extent whole spec told fuel enough over =
-    not_asked told fuel IndexOf (λ index. at_place extent index spec (item_of def_name (specialized spec) index.definitions))
-    (λ index is. place_within extent whole told fuel index spec (item_of def_name (specialized spec) index.definitions) (λ own at. enough own (index, is, at))) over
+    not_asked told fuel IndexOf (λ index. at_place extent index spec (item_of def_name spec.definition index.definitions))
+    (λ index is. place_within extent whole told fuel index spec (item_of def_name spec.definition index.definitions) (λ own at. enough own (index, is, at))) over
 
-pub is_within : (spec : Specialization) (told : Told Reply) (fuel : ℕ) → ((own : Element) → IsTold told spec own → IsEnough fuel own) → run told fuel 0 (elaborated spec) ≡ Over → ⊥
+pub is_within : (spec : Spec) (told : Told Reply) (fuel : ℕ) → ((own : Element) → IsTold told spec own → IsEnough fuel own) → run told fuel 0 (elaborated spec) ≡ Over → ⊥
 is_within spec told fuel enough over = of_specialization _ (λ d. refl) spec told fuel enough over

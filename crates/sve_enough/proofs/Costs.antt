@@ -27,7 +27,8 @@ use Rattle.sve_counted_item.specs.Counted.{counted_function}
 use Rattle.sve_resolve.specs.Resolving.{no_parameters}
 use Rattle.sve_body.specs.Items.{events, plain_item, step_nodes}
 use Rattle.sve_elaboration.specs.State.{Found}
-use Rattle.sve_elaboration.specs.Scopes.{kinds_of, known_in}
+use Rattle.sve_design_kinds.specs.Designs.{kind_named}
+use Rattle.sve_elaboration.specs.Scopes.{known_in}
 use Rattle.sve_elaboration.specs.Declarations.{can_be_overridden, function_in, header_parameters_in, header_ports_in, local_parameters_in, overridable_in, parameters_in}
 use Rattle.sve_elaboration.specs.Instances.{overrides_in}
 use Rattle.sve_elaboration.specs.Elaborating.{elaborating}
@@ -84,7 +85,7 @@ overrides_cost None row semicolon s w = none_below (count (instances_tree None r
 overrides_cost (Some o) row semicolon s w = overrides_reach (known_in s) (calls_none s) o row semicolon w
 
 header_cost : (h : Header) (s t : Found) → Reaches (length (parameters_of h.parameters) + (header_parameters_in h s).0 + length (ports_of h.ports) + (header_ports_in h t).0) (header_tree h)
-header_cost h s t w = header_reach (known_in s) (known_in t) (calls_none s) (calls_none t) s.given no_parameters (kinds_of t) h w
+header_cost h s t w = header_reach (known_in s) (known_in t) (calls_none s) (calls_none t) s.given no_parameters (kind_named t.designs) h w
 
 -- a statement behind what begins its procedure
 clocked_below : (n : ℕ) (p : ClockedProcedure) → n ≤ count (stmt_tree p.statement.value) → n ≤ count (clocked_procedure_tree p)

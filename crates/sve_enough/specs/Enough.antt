@@ -20,9 +20,8 @@ use Rattle.sve_table.specs.Tables.{item_of}
 use Rattle.sve_index.specs.declared.def.Def.{Def}
 use Rattle.sve_index.specs.declared.whole.Index.{Index}
 use Rattle.sve_index.specs.Defs.{def_name}
-use Rattle.sve_spec.specs.Specialization.{Specialization}
+use Rattle.sve_spec.specs.declared.spec.Spec.{Spec}
 use Rattle.sve_look.specs.Questions.{ElementOf, IndexOf, Reply}
-use Rattle.sve_elaborate.specs.Bodies.{definition_of}
 
 -- ---- no generate loop (27.4), however deep
 
@@ -67,8 +66,8 @@ abbrev pub IsToldAt : Told Reply → Option Def → Element → Type 0
 IsToldAt told None own = ⊥
 IsToldAt told (Some def) own = told (ElementOf def.file def.chunk) ≡ Some (Some own)
 
-abbrev pub IsTold : Told Reply → Specialization → Element → Type 0
-IsTold told spec own = (index : Index) × (told IndexOf ≡ Some index) × IsToldAt told (item_of def_name (definition_of spec) index.definitions) own
+abbrev pub IsTold : Told Reply → Spec → Element → Type 0
+IsTold told spec own = (index : Index) × (told IndexOf ≡ Some index) × IsToldAt told (item_of def_name spec.definition index.definitions) own
 
 -- ---- the budget
 

@@ -4,7 +4,7 @@
 ghost use Rattle.std.specs.Prelude.{◌≡◌, ℕ};
 ghost use Rattle.sve_tree.specs.declared.element.Element.{Element};
 ghost use Rattle.sve_told.specs.Told.{Told};
-ghost use Rattle.sve_spec.specs.Specialization.{Specialization};
+ghost use Rattle.sve_spec.specs.declared.spec.Spec.{Spec};
 ghost use Rattle.sve_look.specs.Questions.{Reply};
 ghost use Rattle.sve_plan.specs.Plan.{Over, run};
 ghost use Rattle.sve_elaborate.specs.Bodies.{elaborated};
@@ -13,5 +13,5 @@ ghost use Rattle.sve_enough.specs.Enough.{IsEnough, IsTold};
 /// Whatever is told, the body of a specialization does not cost more than the fuel, where the element of its definition, if it is told, has
 /// no generate loop, and the fuel is at least four times the tokens of that element.
 pub fn bodies_within_their_tokens()
-    ensures { (spec : Specialization) (told : Told Reply) (fuel : ℕ) → ((own : Element) → IsTold told spec own → IsEnough fuel own) → run told fuel 0 (elaborated spec) ≡ Over → ⊥ }
+    ensures { (spec : Spec) (told : Told Reply) (fuel : ℕ) → ((own : Element) → IsTold told spec own → IsEnough fuel own) → run told fuel 0 (elaborated spec) ≡ Over → ⊥ }
 {}

@@ -1,7 +1,7 @@
 -- The questions that an object with bodies answers, and the design of which it answers them (own).
 use Rattle.std.specs.Prelude.{◌≡◌, ℕ, ◌≤◌, nat_le, if◌then◌else◌, List}
 use Rattle.std.specs.Arc.{arc_value}
-use Rattle.sve_spec.specs.Specialization.{Specialization}
+use Rattle.sve_spec.specs.declared.spec.Spec.{Spec}
 use Rattle.sve_facts.specs.declared.facts.Facts.{Facts}
 use Rattle.sve_facts.specs.declared.bodies.Body.{Body}
 use Rattle.sve_facts.specs.declared.bodies.Body.TheVariants as is_body
@@ -10,7 +10,7 @@ pub data Question : Type 0 where
   -- the specializations of the tops
   OfTops : Question
   -- the body of a specialization, with so much fuel
-  OfBody : Specialization → ℕ → Question
+  OfBody : Spec → ℕ → Question
 
 -- a body with its cost, or that it costs more
 pub data BodyValue : Type 0 where
@@ -18,7 +18,7 @@ pub data BodyValue : Type 0 where
   CostsMore : BodyValue
 
 abbrev pub Answer : Question → Type 0
-Answer OfTops = List Specialization
+Answer OfTops = List Spec
 Answer (OfBody spec fuel) = BodyValue
 
 -- a body, wherever its facts lie in memory
@@ -33,9 +33,9 @@ CostsWithin fuel is_body.Over = Unit {0}
 
 -- A design: its tops, and what is found of each specialization and what that costs.
 pub record Design : Type 0 where
-  pub tops : List Specialization
-  pub facts : Specialization → Facts
-  pub cost : Specialization → ℕ
+  pub tops : List Spec
+  pub facts : Spec → Facts
+  pub cost : Spec → ℕ
 
 -- what is so of a design
 abbrev pub answer_of : Design → (question : Question) → Answer question

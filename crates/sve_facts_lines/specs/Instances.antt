@@ -4,7 +4,6 @@ use Rattle.sve_bytes.specs.PathText.{name_text, path_text}
 use Rattle.sve_types.specs.TypeText.{text_of}
 use Rattle.sve_diag.specs.declared.diag.Place.{Place}
 use Rattle.sve_scope.specs.declared.what.FaceName.{FaceName}
-use Rattle.sve_spec.specs.Specialization.{Specialization, specialization}
 use Rattle.sve_facts.specs.declared.facts.Child.{Child}
 use Rattle.sve_facts.specs.declared.facts.Facts.{Facts}
 use Rattle.sve_facts.specs.declared.facts.ParameterValue.{ParameterValue}
@@ -44,13 +43,9 @@ port_text_of None p = data_port_text p
 abbrev pub port_text : Port → List ℕ
 port_text p = port_text_of p.face p
 
--- the name of what is specialized
-abbrev pub definition_of : Specialization → List ℕ
-definition_of (specialization definition values faces) = definition
-
 -- `child <relative path> <module>`
 abbrev pub child_text : Child → List ℕ
-child_text c = codes "child " ++ path_text c.path.steps ++ 32 ∷ name_text (definition_of c.spec)
+child_text c = codes "child " ++ path_text c.path.steps ++ 32 ∷ name_text c.spec.definition
 
 -- the module, the place, the parameters, the ports and the instances in the body
 abbrev pub instance_texts : List ℕ → Place → List ℕ → Facts → List (List ℕ)

@@ -15,12 +15,12 @@ use Rattle.sve_bytes.specs.PathOrder.{step_cmp, step_total}
 use Rattle.sve_bytes.specs.declared.path.Path.{Path}
 use Rattle.sve_bytes.specs.declared.path.Step.{Step}
 use Rattle.sve_bytes.proofs.PathsAreExact.{step_exact}
-use Rattle.sve_spec.specs.Specialization.{Specialization}
+use Rattle.sve_spec.specs.declared.spec.Spec.{Spec}
 use Rattle.sve_scope.specs.declared.spot.Spot.{Spot}
 use Rattle.sve_facts.specs.declared.facts.Child.{Child}
 use Rattle.sve_facts.specs.declared.facts.Facts.{Facts}
 use Rattle.sve_facts.specs.Bodies.{Design}
-use Rattle.sve_design.specs.Walk.{cost_of_all, definition_of, inside, top_path}
+use Rattle.sve_design.specs.Walk.{cost_of_all, inside, top_path}
 use Rattle.sve_find.specs.Ends.{FindValue, FoundValue, Here, Nowhere, Spent, token_place}
 use Rattle.sve_find.specs.Along.{Reached, StandsOn, along, end_of, find, first_of, leads, may_end, names_top, through, visits, way}
 
@@ -44,7 +44,7 @@ all_through : {A : Type 0} (P : Reached → Type 0) (f : A → List Reached) (p 
 all_through P f p xs None e each = All-nil P
 all_through P f p xs (Some x) e each = each x (passes p xs x e)
 
-stand : (design : Design) (levels depth : ℕ) (path : Path) (at : Option Spot) (spec : Specialization) (steps whole : List Step) → path.steps ++ steps ≡ whole → All (StandsOn whole) (way design levels depth path at spec steps)
+stand : (design : Design) (levels depth : ℕ) (path : Path) (at : Option Spot) (spec : Spec) (steps whole : List Step) → path.steps ++ steps ≡ whole → All (StandsOn whole) (way design levels depth path at spec steps)
 stand design zero depth path at spec steps whole e = All-nil (StandsOn whole)
 stand design (suc levels) depth path at spec steps whole e =
     let name = λ (child : Child). token_place (design.facts spec).scopes child.token in
@@ -60,17 +60,17 @@ no_index : {A : Type 0} (o : Option A) (b : Bool) → cond (is_none o) b false �
 no_index None b e = (refl, e)
 no_index (Some x) b e = cc
 
-top_begins : (top : Specialization) (steps : List Step) → names_top steps top ≡ true → (top_path top).steps ++ drop 1 steps ≡ steps
+top_begins : (top : Spec) (steps : List Step) → names_top steps top ≡ true → (top_path top).steps ++ drop 1 steps ≡ steps
 top_begins top [] e = cc
 top_begins top (s ∷ ss) e =
-    let both = no_index s.index (pointwise nat_eq (definition_of top) s.name) e in
-    let name : definition_of top ≡ s.name = same_text (definition_of top) s.name (sym both.1) in
+    let both = no_index s.index (pointwise nat_eq top.definition s.name) e in
+    let name : top.definition ≡ s.name = same_text top.definition s.name (sym both.1) in
     let index : None ≡ s.index = sym both.0 in
     λ i. record { name = name i; index = index i } ∷ ss
 
 all_stand : (design : Design) (path : Path) → All (StandsOn path.steps) (along design path)
 all_stand design path =
-    let f = λ (top : Specialization). way design 64 1 (top_path top) None top (drop 1 path.steps) in
+    let f = λ (top : Spec). way design 64 1 (top_path top) None top (drop 1 path.steps) in
     all_through (StandsOn path.steps) f (names_top path.steps) design.tops (list.find (names_top path.steps) design.tops) refl
     (λ top named. stand design 64 1 (top_path top) None top (drop 1 path.steps) path.steps (top_begins top path.steps named))
 

@@ -5,7 +5,7 @@ use Rattle.std.specs.List as list
 use Rattle.std.proofs.lemmas.List.Elements.{Contains-append_cases, Contains-append_left, Contains-append_right}
 use Rattle.sve_bytes.specs.declared.path.Path.{Path}
 use Rattle.sve_bytes.specs.declared.path.Step.{Step}
-use Rattle.sve_spec.specs.Specialization.{Specialization}
+use Rattle.sve_spec.specs.declared.spec.Spec.{Spec}
 use Rattle.sve_scope.specs.declared.spot.Spot.{Spot}
 use Rattle.sve_facts.specs.declared.facts.Child.{Child}
 use Rattle.sve_facts.specs.Bodies.{Design}
@@ -34,7 +34,7 @@ in_either : (u v : Visit) (some all : List Visit) → (Contains some v → Conta
 in_either u v some all more (inl c) = Contains-append_left (u ∷ []) all v c
 in_either u v some all more (inr c) = Contains-append_right (u ∷ []) all v (more c)
 
-way_in : (design : Design) (levels depth : ℕ) (path : Path) (at : Option Spot) (spec : Specialization) (steps : List Step) (v : Visit) → Contains (visits (way design levels depth path at spec steps)) v → Contains (subtree design levels depth path spec) v
+way_in : (design : Design) (levels depth : ℕ) (path : Path) (at : Option Spot) (spec : Spec) (steps : List Step) (v : Visit) → Contains (visits (way design levels depth path at spec steps)) v → Contains (subtree design levels depth path spec) v
 way_in design zero depth path at spec steps v c = c
 way_in design (suc levels) depth path at spec steps v c =
     let u : Visit = record { path = path; spec = spec; depth = depth } in

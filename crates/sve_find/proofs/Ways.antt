@@ -6,7 +6,7 @@ use Rattle.std.specs.List.{Contains}
 use Rattle.std.proofs.lemmas.Bool.{le-leb, lt-leb, leb-true, leb-false, ltb-true, ltb-false}
 use Rattle.sve_bytes.specs.declared.path.Path.{Path}
 use Rattle.sve_bytes.specs.declared.path.Step.{Step}
-use Rattle.sve_spec.specs.Specialization.{Specialization}
+use Rattle.sve_spec.specs.declared.spec.Spec.{Spec}
 use Rattle.sve_scope.specs.declared.spot.Spot.{Spot}
 use Rattle.sve_facts.specs.declared.facts.Child.{Child}
 use Rattle.sve_facts.specs.declared.facts.Facts.{Facts}
@@ -33,7 +33,7 @@ abbrev pub tail_of : Design → ℕ → ℕ → Path → List Step → Facts →
 tail_of design below depth path steps facts =
     through (λ (child : Child). way design below (depth + 1) (inside path child.path) (token_place facts.scopes child.token) child.spec (drop (length child.path.steps) steps)) (list.find (leads steps) facts.children)
 
-whole_way : (design : Design) (levels below depth : ℕ) (path : Path) (at : Option Spot) (spec : Specialization) (steps : List Step) (facts : Facts) → levels ≡ suc below → design.facts spec ≡ facts → way design levels depth path at spec steps ≡ first_of path at spec depth steps ∷ tail_of design below depth path steps facts
+whole_way : (design : Design) (levels below depth : ℕ) (path : Path) (at : Option Spot) (spec : Spec) (steps : List Step) (facts : Facts) → levels ≡ suc below → design.facts spec ≡ facts → way design levels depth path at spec steps ≡ first_of path at spec depth steps ∷ tail_of design below depth path steps facts
 whole_way design levels below depth path at spec steps facts more same =
     ap (λ (l : ℕ). way design l depth path at spec steps) more ∙ ap (λ (f : Facts). first_of path at spec depth steps ∷ tail_of design below depth path steps f) same
 
@@ -69,7 +69,7 @@ none_for design r rest =
       asked = refl;
     }
 
-pub nothing_left : (design : Design) (levels below depth budget : ℕ) (path : Path) (at : Option Spot) (spec : Specialization) (steps : List Step) → levels ≡ suc below → budget ≡ 0 → LeadsTo design budget (way design levels depth path at spec steps) Spent []
+pub nothing_left : (design : Design) (levels below depth budget : ℕ) (path : Path) (at : Option Spot) (spec : Spec) (steps : List Step) → levels ≡ suc below → budget ≡ 0 → LeadsTo design budget (way design levels depth path at spec steps) Spent []
 nothing_left design levels below depth budget path at spec steps more none =
     subst (λ (w : List Reached). LeadsTo design budget w Spent []) (sym (whole_way design levels below depth path at spec steps (design.facts spec) more refl))
     (subst (λ (n : ℕ). LeadsTo design n (first_of path at spec depth steps ∷ tail_of design below depth path steps (design.facts spec)) Spent []) (sym none)
@@ -85,7 +85,7 @@ first_over design r rest n over =
       asked = ap (λ (b : Bool). OfBody r.visit.spec n ∷ cond b (bodies_asked design (n - design.cost r.visit.spec) (visits rest)) []) over;
     }
 
-pub costs_more : (design : Design) (levels below depth budget n : ℕ) (path : Path) (at : Option Spot) (spec : Specialization) (steps : List Step) → levels ≡ suc below → budget ≡ suc n → CostsMore ≡ answer_of design (OfBody spec n) → LeadsTo design budget (way design levels depth path at spec steps) Spent (OfBody spec n ∷ [])
+pub costs_more : (design : Design) (levels below depth budget n : ℕ) (path : Path) (at : Option Spot) (spec : Spec) (steps : List Step) → levels ≡ suc below → budget ≡ suc n → CostsMore ≡ answer_of design (OfBody spec n) → LeadsTo design budget (way design levels depth path at spec steps) Spent (OfBody spec n ∷ [])
 costs_more design levels below depth budget n path at spec steps more some told =
     subst (λ (w : List Reached). LeadsTo design budget w Spent (OfBody spec n ∷ [])) (sym (whole_way design levels below depth path at spec steps (design.facts spec) more refl))
     (subst (λ (b : ℕ). LeadsTo design b (first_of path at spec depth steps ∷ tail_of design below depth path steps (design.facts spec)) Spent (OfBody spec n ∷ [])) (sym some)
@@ -104,13 +104,13 @@ on_to_next design r next rest n fits =
       asked = ap (λ (b : Bool). OfBody r.visit.spec n ∷ cond b (bodies_asked design (n - cost) (visits (next ∷ rest))) []) fits;
     }
 
-on_to : (design : Design) (r : Reached) (below last depth n left : ℕ) (inner : Path) (name : Option Spot) (spec : Specialization) (rest : List Step) → below ≡ suc last → left ≡ n - design.cost r.visit.spec → nat_le (design.cost r.visit.spec) n ≡ true → LeadsTo design (suc n) (r ∷ way design below depth inner name spec rest) (settle design left (way design below depth inner name spec rest)) (OfBody r.visit.spec n ∷ bodies_asked design left (visits (way design below depth inner name spec rest)))
+on_to : (design : Design) (r : Reached) (below last depth n left : ℕ) (inner : Path) (name : Option Spot) (spec : Spec) (rest : List Step) → below ≡ suc last → left ≡ n - design.cost r.visit.spec → nat_le (design.cost r.visit.spec) n ≡ true → LeadsTo design (suc n) (r ∷ way design below depth inner name spec rest) (settle design left (way design below depth inner name spec rest)) (OfBody r.visit.spec n ∷ bodies_asked design left (visits (way design below depth inner name spec rest)))
 on_to design r below last depth n left inner name spec rest deep after fits =
     subst (λ (m : ℕ). LeadsTo design (suc n) (r ∷ way design m depth inner name spec rest) (settle design left (way design m depth inner name spec rest)) (OfBody r.visit.spec n ∷ bodies_asked design left (visits (way design m depth inner name spec rest)))) (sym deep)
     (subst (λ (m : ℕ). LeadsTo design (suc n) (r ∷ way design (suc last) depth inner name spec rest) (settle design m (way design (suc last) depth inner name spec rest)) (OfBody r.visit.spec n ∷ bodies_asked design m (visits (way design (suc last) depth inner name spec rest)))) (sym after)
     (on_to_next design r (first_of inner name spec depth rest) (tail_of design last depth inner rest (design.facts spec)) n fits))
 
-pub goes_on : (design : Design) (levels below last depth other budget n left : ℕ) (path inner : Path) (at name : Option Spot) (spec : Specialization) (steps rest : List Step) (facts : Facts) (cost : ℕ) (child : Child) → levels ≡ suc below → below ≡ suc last → other ≡ depth + 1 → budget ≡ suc n → left ≡ n - cost → Costs facts cost ≡ answer_of design (OfBody spec n) → Some child ≡ list.find (leads steps) facts.children → inner ≡ inside path child.path → name ≡ token_place facts.scopes child.token → rest ≡ drop (length child.path.steps) steps → LeadsTo design budget (way design levels depth path at spec steps) (settle design left (way design below other inner name child.spec rest)) (OfBody spec n ∷ bodies_asked design left (visits (way design below other inner name child.spec rest)))
+pub goes_on : (design : Design) (levels below last depth other budget n left : ℕ) (path inner : Path) (at name : Option Spot) (spec : Spec) (steps rest : List Step) (facts : Facts) (cost : ℕ) (child : Child) → levels ≡ suc below → below ≡ suc last → other ≡ depth + 1 → budget ≡ suc n → left ≡ n - cost → Costs facts cost ≡ answer_of design (OfBody spec n) → Some child ≡ list.find (leads steps) facts.children → inner ≡ inside path child.path → name ≡ token_place facts.scopes child.token → rest ≡ drop (length child.path.steps) steps → LeadsTo design budget (way design levels depth path at spec steps) (settle design left (way design below other inner name child.spec rest)) (OfBody spec n ∷ bodies_asked design left (visits (way design below other inner name child.spec rest)))
 goes_on design levels below last depth other budget n left path inner at name spec steps rest facts cost child more deep one some after told found inner_is name_is rest_is =
     let s = so_done design spec n facts cost told in
     let r = first_of path at spec depth steps in
@@ -135,7 +135,7 @@ alone design r n fits =
       asked = ap (λ (b : Bool). OfBody r.visit.spec n ∷ cond b [] []) fits;
     }
 
-pub ends_here : (design : Design) (levels below depth budget n left : ℕ) (path : Path) (at : Option Spot) (spec : Specialization) (steps : List Step) (facts : Facts) (cost : ℕ) → levels ≡ suc below → (None ≡ list.find (leads steps) facts.children) ⊎ (below ≡ 0) → budget ≡ suc n → left ≡ n - cost → Costs facts cost ≡ answer_of design (OfBody spec n) → LeadsTo design budget (way design levels depth path at spec steps) (ends_at facts (first_of path at spec depth steps) left) (OfBody spec n ∷ [])
+pub ends_here : (design : Design) (levels below depth budget n left : ℕ) (path : Path) (at : Option Spot) (spec : Spec) (steps : List Step) (facts : Facts) (cost : ℕ) → levels ≡ suc below → (None ≡ list.find (leads steps) facts.children) ⊎ (below ≡ 0) → budget ≡ suc n → left ≡ n - cost → Costs facts cost ≡ answer_of design (OfBody spec n) → LeadsTo design budget (way design levels depth path at spec steps) (ends_at facts (first_of path at spec depth steps) left) (OfBody spec n ∷ [])
 ends_here design levels below depth budget n left path at spec steps facts cost more last some after told =
     let s = so_done design spec n facts cost told in
     let r = first_of path at spec depth steps in
@@ -148,7 +148,7 @@ ends_here design levels below depth budget n left path at spec steps facts cost 
     (alone design r n s.0))))
 
 -- the body of the first instance is asked for
-pub asks_body : (design : Design) (levels below depth budget n : ℕ) (path : Path) (at : Option Spot) (spec : Specialization) (steps : List Step) → levels ≡ suc below → budget ≡ suc n → Contains (bodies_asked design budget (visits (way design levels depth path at spec steps))) (OfBody spec n)
+pub asks_body : (design : Design) (levels below depth budget n : ℕ) (path : Path) (at : Option Spot) (spec : Spec) (steps : List Step) → levels ≡ suc below → budget ≡ suc n → Contains (bodies_asked design budget (visits (way design levels depth path at spec steps))) (OfBody spec n)
 asks_body design levels below depth budget n path at spec steps more some =
     let r = first_of path at spec depth steps in
     let rest = visits (tail_of design below depth path steps (design.facts spec)) in
@@ -172,13 +172,13 @@ none_is levels below o more e = by (nat_lt 1 levels) refl e
     by false h e = let low = ltb-false 1 levels h in inr (omega (arith, more, low))
 
 -- a way begins at the top that its first step names
-pub top_way : (design : Design) (path first : Path) (top : Specialization) (rest : List Step) → Some top ≡ list.find (names_top path.steps) design.tops → first ≡ top_path top → rest ≡ drop 1 path.steps → way design 64 1 first None top rest ≡ along design path
+pub top_way : (design : Design) (path first : Path) (top : Spec) (rest : List Step) → Some top ≡ list.find (names_top path.steps) design.tops → first ≡ top_path top → rest ≡ drop 1 path.steps → way design 64 1 first None top rest ≡ along design path
 top_way design path first top rest found first_is rest_is =
     ap (λ (p : Path). way design 64 1 p None top rest) first_is ∙ ap (λ (r : List Step). way design 64 1 (top_path top) None top r) rest_is
-    ∙ ap (λ (o : Option Specialization). through (λ (t : Specialization). way design 64 1 (top_path t) None t (drop 1 path.steps)) o) found
+    ∙ ap (λ (o : Option Spec). through (λ (t : Spec). way design 64 1 (top_path t) None t (drop 1 path.steps)) o) found
 
 pub no_way : (design : Design) (path : Path) → None ≡ list.find (names_top path.steps) design.tops → along design path ≡ []
-no_way design path none = ap (λ (o : Option Specialization). through (λ (t : Specialization). way design 64 1 (top_path t) None t (drop 1 path.steps)) o) (sym none)
+no_way design path none = ap (λ (o : Option Spec). through (λ (t : Spec). way design 64 1 (top_path t) None t (drop 1 path.steps)) o) (sym none)
 
 pub nowhere : (design : Design) (budget : ℕ) (path : Path) → None ≡ list.find (names_top path.steps) design.tops → (Nowhere ≡ find design budget path) × (OfTops ∷ [] ≡ find_asks design budget path)
 nowhere design budget path none =

@@ -7,7 +7,7 @@ use Rattle.std.specs.Cmp.Lexicographic.{pointwise}
 use Rattle.sve_bytes.specs.PathOrder.{step_cmp}
 use Rattle.sve_bytes.specs.declared.path.Path.{Path}
 use Rattle.sve_bytes.specs.declared.path.Step.{Step}
-use Rattle.sve_spec.specs.Specialization.{Specialization}
+use Rattle.sve_spec.specs.declared.spec.Spec.{Spec}
 use Rattle.sve_scope.specs.declared.spot.Spot.{Spot}
 use Rattle.sve_facts.specs.declared.facts.BodyScope.{BodyScope}
 use Rattle.sve_facts.specs.declared.facts.Child.{Child}
@@ -15,7 +15,7 @@ use Rattle.sve_facts.specs.declared.facts.Facts.{Facts}
 use Rattle.sve_facts.specs.Bodies.{Design, Question, OfTops}
 use Rattle.sve_design.specs.declared.visits.Visit.{Visit}
 use Rattle.sve_find.specs.Ends.{FindValue, Here, Nowhere, Spent, token_place}
-use Rattle.sve_design.specs.Walk.{inside, definition_of, top_path, cost_of_all}
+use Rattle.sve_design.specs.Walk.{inside, top_path, cost_of_all}
 use Rattle.sve_design.specs.Paying.{bodies_asked}
 
 -- an instance on the way, where its name stands in its parent's text, and the steps of the path that are behind it
@@ -24,7 +24,7 @@ pub record Reached : Type 0 where
   pub at : Option Spot
   pub rest : List Step
 
-abbrev pub first_of : Path → Option Spot → Specialization → ℕ → List Step → Reached
+abbrev pub first_of : Path → Option Spot → Spec → ℕ → List Step → Reached
 first_of path at spec depth steps = record { visit = record { path = path; spec = spec; depth = depth }; at = at; rest = steps }
 
 -- what is behind a thing, where there is one
@@ -37,9 +37,9 @@ abbrev pub leads : List Step → Child → Bool
 leads steps child = starts_with (eq_by_cmp step_cmp) steps child.path.steps
 
 -- whether the first step is the name of a top
-abbrev pub names_top : List Step → Specialization → Bool
+abbrev pub names_top : List Step → Spec → Bool
 names_top [] top = false
-names_top (step ∷ steps) top = if is_none step.index then pointwise nat_eq (definition_of top) step.name else false
+names_top (step ∷ steps) top = if is_none step.index then pointwise nat_eq top.definition step.name else false
 
 -- whether the steps are the path of a generate block of a body
 abbrev pub is_block : Facts → List Step → Bool
@@ -51,7 +51,7 @@ may_end facts [] = true
 may_end facts (step ∷ steps) = is_block facts (step ∷ steps)
 
 -- an instance and those below it on the way, so many levels in all: each time the first child whose path begins the steps
-abbrev pub way : Design → ℕ → ℕ → Path → Option Spot → Specialization → List Step → List Reached
+abbrev pub way : Design → ℕ → ℕ → Path → Option Spot → Spec → List Step → List Reached
 way design zero depth path at spec steps = []
 way design (suc levels) depth path at spec steps =
     first_of path at spec depth steps ∷ through (λ (child : Child). way design levels (depth + 1) (inside path child.path) (token_place (design.facts spec).scopes child.token) child.spec (drop (length child.path.steps) steps)) (list.find (leads steps) (design.facts spec).children)

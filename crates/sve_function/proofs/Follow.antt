@@ -1,5 +1,5 @@
 -- What packages that tell the same by each name of a text make of the functions and of all items of that text is the same.
-use Rattle.std.proofs.Common.{◌≡◌, ℕ, true, false, cond, List, [], ◌∷◌, Option, Some, None, Result, option_map, refl, ap, ◌∙◌}
+use Rattle.std.proofs.Common.{◌≡◌, ℕ, true, false, cond, List, [], ◌∷◌, Option, Some, None, Result, refl, ap, ◌∙◌}
 use Rattle.std.specs.List.{AllByRecursion, flat_map, fold}
 use Rattle.sve_env.specs.Told.{Told}
 use Rattle.sve_fault.specs.declared.fault.Fault.{Fault}
@@ -8,6 +8,7 @@ use Rattle.sve_tree.specs.Statements.{result_name}
 use Rattle.sve_tree.specs.declared.data_type.DeclaredType.{DeclaredType}
 use Rattle.sve_tree.specs.declared.data_type.DeclaredType.TheVariants as is_declared
 use Rattle.sve_tree.specs.declared.data_type.TypeRef.TheVariants as is_type_ref
+use Rattle.sve_tree.specs.declared.expression.Postfix.{Postfix}
 use Rattle.sve_tree.specs.declared.element.Package.{Package}
 use Rattle.sve_tree.specs.declared.element.UnitItem.{UnitItem}
 use Rattle.sve_tree.specs.declared.element.UnitItem.TheVariants as is_item
@@ -17,7 +18,7 @@ use Rattle.sve_tree.specs.declared.statement.FunctionResult.TheVariants as is_re
 use Rattle.sve_tree.specs.declared.token_word.Word.{Word}
 use Rattle.sve_tree.specs.declared.word.PackageScope.{PackageScope}
 use Rattle.sve_tree.specs.declared.word.ScopedName.{ScopedName}
-use Rattle.sve_use.specs.Use.{Called, Dotted, Named, Use, plain}
+use Rattle.sve_use.specs.Use.{Called, Dotted, Named, Use, first_member, plain}
 use Rattle.sve_statement_use.specs.Statements.{block_item_steps}
 use Rattle.sve_statement_use.specs.Steps.{Step}
 use Rattle.sve_scope.specs.declared.scope.Scope.{Scope}
@@ -29,6 +30,7 @@ use Rattle.sve_known.specs.Naming.{name_at, of_name}
 use Rattle.sve_heading.specs.declared.heading.Heading.{Heading}
 use Rattle.sve_heading.specs.Items.{headings}
 use Rattle.sve_contents.specs.declared.contents.Contents.{Contents}
+use Rattle.sve_contents.specs.declared.contents.DottedName.{DottedName}
 use Rattle.sve_contents.specs.Nested.{entered, left, left_to}
 use Rattle.sve_contents.specs.Reading.{empty_contents, noted_all}
 use Rattle.sve_contents.specs.Uses.{named_use, said_if, with_plain, with_use, wrong_in}
@@ -45,7 +47,7 @@ use Rattle.sve_scoped.specs.Said.{out_if}
 use Rattle.sve_declare.specs.Alike.{TellAlike}
 use Rattle.sve_declare.proofs.Alike.{imports_alike, imports_hold, known_in, name_alike, with_parameters_alike, with_parameters_hold, with_typedef_alike, with_typedef_holds}
 use Rattle.sve_declare.proofs.Holding.{AreNamed, Holds, of_declared, of_out_if, of_passed, of_ref, of_said, of_use}
-use Rattle.sve_local.specs.Used.{dotted_use, hierarchical, name_used}
+use Rattle.sve_local.specs.Used.{dotted_name, dotted_use, first_found, name_used, used_as, with_dotted_if, wrong_dotted}
 use Rattle.sve_formal_data.specs.Formals.{with_formals}
 use Rattle.sve_formal_data.proofs.Follow.{Keeps, SameIn, formals_alike, formals_keep}
 use Rattle.sve_local.specs.Steps.{stepped}
@@ -73,23 +75,38 @@ module _ (ws : List Word) (ps qs : List Known) (alike : TellAlike ws ps qs) wher
       let fault : Option Fault = wrong_in (of_name qs ws (c.scope ∷ c.around) name) in
       plain_holds (said_if c fault) name.scope name.name (said_holds c fault h)
 
-  dotted_alike : (c : Contents) (token : ℕ) → Holds ws c → dotted_use ps ws c token ≡ dotted_use qs ws c token
-  dotted_alike c token h = ap (λ (r : Result What Fault). with_use (said_if c (option_map hierarchical (wrong_in r))) token (name_at ws token)) (name_alike ws ps qs alike c.scope c.around h (plain token))
+  kept_holds : (c : Contents) (name : Option DottedName) → Holds ws c → Holds ws (with_dotted_if c name)
+  kept_holds c None h = h
+  kept_holds c (Some name) h = h
 
-  dotted_holds : (c : Contents) (token : ℕ) → Holds ws c → Holds ws (dotted_use qs ws c token)
-  dotted_holds c token h =
-      let fault : Option Fault = option_map hierarchical (wrong_in (of_name qs ws (c.scope ∷ c.around) (plain token))) in
-      of_use ws (said_if c fault) token (name_at ws token) (said_holds c fault h)
+  used_holds : (c : Contents) (token : ℕ) (fault : Option Fault) (name : Option DottedName) → Holds ws c → Holds ws (used_as ws c token fault name)
+  used_holds c token fault name h =
+      of_use ws (said_if (with_dotted_if c name) fault) token (name_at ws token) (said_holds (with_dotted_if c name) fault (kept_holds c name h))
+
+  -- by what is known, and by what is found of the first name
+  used_by : Contents → ℕ → List Postfix → Told → Result What Fault → Contents
+  used_by c token postfixes m found = used_as ws c token (wrong_dotted ws (first_member postfixes) found) (dotted_name m ws token postfixes found)
+
+  dotted_alike : (c : Contents) (token : ℕ) (postfixes : List Postfix) → Holds ws c → dotted_use ps ws c token postfixes ≡ dotted_use qs ws c token postfixes
+  unfolding used_by
+  dotted_alike c token postfixes h =
+      ap (λ (m : Told). used_by c token postfixes m (first_found ps ws c token)) (known_in ws ps qs alike c h)
+      ∙ ap (used_by c token postfixes (told_in qs ws c)) (name_alike ws ps qs alike c.scope c.around h (plain token))
+
+  dotted_holds : (c : Contents) (token : ℕ) (postfixes : List Postfix) → Holds ws c → Holds ws (dotted_use qs ws c token postfixes)
+  dotted_holds c token postfixes h =
+      let found : Result What Fault = first_found qs ws c token in
+      used_holds c token (wrong_dotted ws (first_member postfixes) found) (dotted_name (told_in qs ws c) ws token postfixes found) h
 
   use_alike : (c : Contents) (u : Use) → Holds ws c → name_used ps ws c u ≡ name_used qs ws c u
   use_alike c (Named name) h = named_alike c name h
   use_alike c (Called name) h = named_alike c name h
-  use_alike c (Dotted token postfixes) h = dotted_alike c token h
+  use_alike c (Dotted token postfixes) h = dotted_alike c token postfixes h
 
   use_holds : (c : Contents) (u : Use) → Holds ws c → Holds ws (name_used qs ws c u)
   use_holds c (Named name) h = named_holds c name h
   use_holds c (Called name) h = named_holds c name h
-  use_holds c (Dotted token postfixes) h = dotted_holds c token h
+  use_holds c (Dotted token postfixes) h = dotted_holds c token postfixes h
 
   -- ---- bodies of functions
 

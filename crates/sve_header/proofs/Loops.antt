@@ -5,6 +5,7 @@ use Rattle.std.proofs.Math.ListN.{drop_of_length-le}
 use Rattle.sve_tree.specs.declared.token_word.Word.{Word}
 use Rattle.sve_tree.specs.declared.header.ParameterPorts.{ParameterPorts}
 use Rattle.sve_tree.specs.declared.header.Ports.{Ports}
+use Rattle.sve_scope.specs.declared.what.PortFace.{PortFace}
 use Rattle.sve_facts.specs.declared.facts.Port.{Port}
 use Rattle.sve_enumerated.specs.declared.passed.Passed.{Passed}
 use Rattle.sve_resolve.specs.declared.known.Resolved.{Resolved}
@@ -20,11 +21,11 @@ pub parameters_end : (ws : List Word) (list : ParameterPorts) (rs : List Resolve
 unfolding parameters_behind
 parameters_end ws list rs i p h = rw (drop_of_length-le rs h) refl
 
-pub ports_step : (ws : List Word) (list : Ports) (ports : List Port) (i : ℕ) (port : Port) (p : Passed) → i < length ports → port ≡ get_or ports i port →
-    ports_behind ws list (i + 1) (port_after ws list i p port) (drop (i + 1) ports) ≡ ports_behind ws list i p (drop i ports)
+pub ports_step : (ws : List Word) (faces : List PortFace) (list : Ports) (ports : List Port) (i : ℕ) (port : Port) (p : Passed) → i < length ports → port ≡ get_or ports i port →
+    ports_behind ws faces list (i + 1) (port_after ws faces list i p port) (drop (i + 1) ports) ≡ ports_behind ws faces list i p (drop i ports)
 unfolding ports_behind
-ports_step ws list ports i port p h e = rw (drop_more ports i port h, ← e) refl
+ports_step ws faces list ports i port p h e = rw (drop_more ports i port h, ← e) refl
 
-pub ports_end : (ws : List Word) (list : Ports) (ports : List Port) (i : ℕ) (p : Passed) → length ports ≤ i → ports_behind ws list i p (drop i ports) ≡ p
+pub ports_end : (ws : List Word) (faces : List PortFace) (list : Ports) (ports : List Port) (i : ℕ) (p : Passed) → length ports ≤ i → ports_behind ws faces list i p (drop i ports) ≡ p
 unfolding ports_behind
-ports_end ws list ports i p h = rw (drop_of_length-le ports h) refl
+ports_end ws faces list ports i p h = rw (drop_of_length-le ports h) refl

@@ -6,7 +6,6 @@ use Rattle.sve_bytes.specs.declared.path.Path.{Path}
 use Rattle.sve_facts.specs.declared.facts.Facts.{Facts}
 use Rattle.sve_facts.specs.Bodies.{Design, Question, OfBody}
 use Rattle.sve_design.specs.declared.visits.Visit.{Visit}
-use Rattle.sve_design.specs.Walk.{definition_of}
 use Rattle.sve_hier.specs.declared.bodies.Instance.{Instance}
 
 -- an instance, the name of its module, and what is found of its body
@@ -21,7 +20,7 @@ instance_value i = record { path = i.path; module_name = i.module; facts = arc_v
 
 -- the instance of a visit
 abbrev pub instance_of : Design → Visit → InstanceValue
-instance_of design v = record { path = v.path; module_name = definition_of v.spec; facts = design.facts v.spec }
+instance_of design v = record { path = v.path; module_name = v.spec.definition; facts = design.facts v.spec }
 
 -- whether its body costs no more than this
 abbrev pub fits : Design → ℕ → Visit → Bool

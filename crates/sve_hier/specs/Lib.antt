@@ -1,3 +1,4 @@
 pub mod Instances
 pub mod Places
 pub mod Names
+pub mod Uses

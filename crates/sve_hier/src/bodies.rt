@@ -3,7 +3,6 @@ ghost use Rattle.std.specs.Arc.{arc_value};
 ghost use Rattle.sve_told.specs.Told.{HasStopped, TellSame, asked_on, noted};
 ghost use Rattle.sve_facts.specs.Bodies.{Design, IsOf, OfBody};
 ghost use Rattle.sve_design.specs.Halts.{HaltedAmong};
-ghost use Rattle.sve_design.specs.Walk.{definition_of};
 ghost use Rattle.sve_hier.specs.Instances.{asked_within, fits, instance_of, instance_value, instances_within};
 
 use std::alloc::Global;
@@ -34,8 +33,11 @@ impl Drop for Instance {
 }
 
 /// The instance of a visit, whose body has these facts.
-fn opened(alloc: Global, visit: &Visit, facts: &Arc<Facts>) -> Result<Instance, NoMemory>
-    ensures { IfOk result (λ i. instance_value i ≡ record { path = visit.now.path; module_name = definition_of visit.now.spec; facts = arc_value facts.now }) }
+///
+/// # Errors
+/// For want of memory alone.
+pub fn opened(alloc: Global, visit: &Visit, facts: &Arc<Facts>) -> Result<Instance, NoMemory>
+    ensures { IfOk result (λ i. instance_value i ≡ record { path = visit.now.path; module_name = visit.now.spec.definition; facts = arc_value facts.now }) }
 {
     Ok(Instance {
         path: visit.path.copy(alloc)?,

@@ -2,9 +2,10 @@ ghost use Rattle.std.specs.Prelude.{◌≡◌, ◌≤◌, ◌<◌, length, find,
 ghost use Rattle.sve_hier.specs.Instances.{instance_value};
 ghost use Rattle.sve_hier.specs.Places.{declaration_at, entry_at, is_instance, is_place, module_at, place_at, places};
 ghost use Rattle.sve_hier.specs.Names.{below, down, found, item, last_item, leads, names, own_declaration, resolve, upward, whole};
+ghost use Rattle.sve_hier.specs.Uses.{ends_in, has_thing, is_found, leads_from, leads_on};
 
 use crate::bodies::Instance;
-use crate::paths::{below, front, is_block, is_module_name, is_own_name, outer, root};
+use crate::paths::{below, front, is_block, is_module_name, is_own_name, is_thing, outer, root};
 use crate::place::{Place, places};
 use crate::resolved::Resolved;
 use std::alloc::Global;
@@ -264,6 +265,72 @@ impl Hierarchy {
         } else {
             Ok(None)
         }
+    }
+
+    /// Whether something that is no scope is declared by a step in the scope at a path.
+    fn has_thing(&self, path: &Path, step: &Step) -> bool
+        ensures { result ≡ has_thing (entry_at self.now) path.now step.now }
+    {
+        match self.declaration(path, &step.name) {
+            Some(declared) => is_thing(&declared.what),
+            None => false,
+        }
+    }
+
+    /// Whether a step is found in the scope at a path, where it leads to no place.
+    fn ends_in(&self, path: &Path, step: &Step, rest: &[Step]) -> bool
+        ensures { result ≡ ends_in (entry_at self.now) path.now step.now rest.now }
+    {
+        if rest.is_empty() {
+            return self.has_thing(path, step) || self.item(path, step).is_some();
+        }
+        self.has_thing(path, step)
+    }
+
+    /// Whether some steps lead on from a place.
+    fn leads_on(&self, alloc: Global, path: Path, steps: &[Step]) -> Result<bool, NoMemory>
+        ensures { IfOk result (λ b. b ≡ leads_on (entry_at self.now) steps.now path) }
+    {
+        match steps.split_first() {
+            None => Ok(true),
+            Some((step, rest)) => {
+                let next = below(alloc, &path, step)?;
+                if self.is_place(&next) {
+                    self.leads_on(alloc, next, rest)
+                } else {
+                    Ok(self.ends_in(&path, step, rest))
+                }
+            }
+        }
+    }
+
+    /// Whether steps are found whose first is sought from the place at a path upward.
+    fn leads_from(&self, alloc: Global, from: &Path, steps: &[Step]) -> Result<bool, NoMemory>
+        ensures { IfOk result (λ b. b ≡ leads_from (entry_at self.now) from.now steps.now) }
+    {
+        let Some((step, rest)) = steps.split_first() else {
+            return Ok(false);
+        };
+        match self.found(alloc, from, from.steps.items().len(), true, step)? {
+            Some(place) => self.leads_on(alloc, place, rest),
+            None => Ok(false),
+        }
+    }
+
+    /// Whether a hierarchical name is found that an expression uses in the scope of an instance or of a generate block, which is given by its
+    /// path from the root (IEEE 1800-2017, 23.6 and 23.8). Its first step is sought as [`resolve`](Hierarchy::resolve) does. The others lead
+    /// on from there to instances and generate blocks, and perhaps to something else that is declared; what stands behind that is selected of
+    /// it. It is not found where no place stands at `from`.
+    ///
+    /// # Errors
+    /// For want of memory alone.
+    pub fn is_found(&self, alloc: Global, from: &Path, name: &Path) -> Result<bool, NoMemory>
+        ensures { IfOk result (λ b. b ≡ is_found (entry_at self.now) from.now name.now) }
+    {
+        if !self.is_place(from) {
+            return Ok(false);
+        }
+        self.leads_from(alloc, from, name.steps.items())
     }
 }
 

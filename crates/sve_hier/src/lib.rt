@@ -7,6 +7,6 @@ mod paths;
 mod place;
 mod resolved;
 
-pub use bodies::{Instance, instances};
+pub use bodies::{Instance, instances, opened};
 pub use hierarchy::Hierarchy;
 pub use resolved::Resolved;

@@ -1,5 +1,6 @@
 ghost use Rattle.std.specs.Prelude.{◌≡◌, ◌≤◌, length, IfOk};
 ghost use Rattle.sve_hier.specs.Names.{below, front, is_block, is_module_name, is_own_name, outer, root};
+ghost use Rattle.sve_hier.specs.Uses.{is_thing};
 
 use std::alloc::Global;
 use sve_bytes::{List, Name, NoMemory, Path, Step};
@@ -68,4 +69,11 @@ pub(crate) fn is_block(what: &What) -> bool
     ensures { result ≡ is_block what.now }
 {
     matches!(what, What::Block)
+}
+
+/// Whether what is declared is no scope.
+pub(crate) fn is_thing(what: &What) -> bool
+    ensures { result ≡ is_thing what.now }
+{
+    !matches!(what, What::Instance | What::Block)
 }

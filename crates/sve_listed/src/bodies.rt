@@ -38,7 +38,7 @@ fn plain(alloc: Global, name: &Name) -> Result<Spec, NoMemory> {
     Ok(Spec {
         definition: name.copy()?,
         values: List::of(Vec::new(alloc)),
-        faces: Vec::new(alloc),
+        faces: List::of(Vec::new(alloc)),
     })
 }
 

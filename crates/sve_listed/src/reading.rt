@@ -66,7 +66,7 @@ fn child(alloc: Global, at: &str, written: &str, token: u32) -> Result<Child, Un
         spec: Spec {
             definition: name(alloc, module)?,
             values: List::of(Vec::new(alloc)),
-            faces: Vec::new(alloc),
+            faces: List::of(Vec::new(alloc)),
         },
         token,
         unconnected: List::of(unconnected),

@@ -6,7 +6,7 @@ use std::alloc::{AllocError, AllocFailed, Global};
 use sve_bytes::{BadPath, List, Name, NoMemory, Path};
 use sve_io::Halt;
 use sve_row::{decoded, name_of, value_of, words_of};
-use sve_scope::{Constant, FaceName, SharedType, What};
+use sve_scope::{Constant, Face, FaceName, SharedType, What};
 use sve_types::Value;
 
 /// Why a row is not read.
@@ -101,9 +101,12 @@ fn plain_thing(alloc: Global, kind: &str) -> Result<What, Unread> {
         "instance" => Ok(What::Instance),
         "block" => Ok(What::Block),
         "modport" => Ok(What::Modport),
-        "interfaceport" => Ok(What::InterfacePort(FaceName {
-            interface: name(alloc, "i")?,
-            modport: None,
+        "interfaceport" => Ok(What::InterfacePort(Face {
+            name: FaceName {
+                interface: name(alloc, "i")?,
+                modport: None,
+            },
+            names: None,
         })),
         _ => Err(Unread::NoForm),
     }

@@ -3,8 +3,8 @@ use sve_bytes::NoMemory;
 use sve_contents::Contents;
 use sve_declare::{Text, with_parameters, with_typedef};
 use sve_loop_data::{
-    dotted_use, taken_out, with_data, with_indices, with_loop, with_named_data, with_named_loop,
-    with_variables,
+    dotted_use, selected_use, taken_out, with_data, with_indices, with_loop, with_named_data,
+    with_named_loop, with_variables,
 };
 use sve_statement_use::Scopes;
 use sve_tree::{
@@ -42,15 +42,15 @@ impl Resolver for Within<'_> {
         Ok(())
     }
 
-    fn dotted(&mut self, name: u32, _postfixes: &[Postfix]) -> Result<(), NoMemory> {
+    fn dotted(&mut self, name: u32, postfixes: &[Postfix]) -> Result<(), NoMemory> {
         let contents = taken_out(self.alloc, &mut self.contents)?;
-        self.contents = dotted_use(self.text, contents, name)?;
+        self.contents = dotted_use(self.alloc, self.text, contents, name, postfixes)?;
         Ok(())
     }
 
-    fn selected(&mut self, name: u32, _selects: &[Select]) -> Result<(), NoMemory> {
+    fn selected(&mut self, name: u32, selects: &[Select]) -> Result<(), NoMemory> {
         let contents = taken_out(self.alloc, &mut self.contents)?;
-        self.contents = dotted_use(self.text, contents, name)?;
+        self.contents = selected_use(self.alloc, self.text, contents, name, selects)?;
         Ok(())
     }
 }

@@ -6,7 +6,7 @@ use Rattle.std.specs.declared.sync.Arc.{Arc}
 use Rattle.sve_bytes.specs.declared.net_type.NetType.{NetType}
 use Rattle.sve_tree.specs.declared.element.Element.{Element}
 use Rattle.sve_index.specs.declared.whole.Index.{Index}
-use Rattle.sve_spec.specs.Specialization.{Specialization}
+use Rattle.sve_spec.specs.declared.spec.Spec.{Spec}
 use Rattle.sve_facts.specs.declared.facts.Facts.{Facts}
 use Rattle.sve_facts.specs.declared.facts.Port.{Port}
 
@@ -20,7 +20,7 @@ pub data Question : Type 0 where
   -- what is found of a package
   PackageOf : List ℕ → Question
   -- the ports of a specialization
-  PortsOf : Specialization → Question
+  PortsOf : Spec → Question
 
 -- a chunk that is refused has no tree
 abbrev pub Reply : Question → Type 0

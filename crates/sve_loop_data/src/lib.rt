@@ -5,4 +5,6 @@
 mod loops;
 
 pub use loops::{with_indices, with_loop, with_named_loop};
-pub use sve_data::{dotted_use, taken_out, with_data, with_named_data, with_variables};
+pub use sve_data::{
+    dotted_use, selected_use, taken_out, with_data, with_named_data, with_variables,
+};

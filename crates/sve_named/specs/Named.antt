@@ -13,7 +13,6 @@ use Rattle.sve_known.specs.Packages.{Known, member, package_name}
 use Rattle.sve_function.specs.Readings.{readings}
 use Rattle.sve_unit_scope.specs.Elements.{ChunkElement, with_element}
 use Rattle.sve_unit_scope.specs.Units.{unit_of}
-use Rattle.sve_design.specs.Walk.{definition_of}
 use Rattle.sve_find.specs.Ends.{FoundValue}
 use Rattle.sve_project.specs.Projects.{ProjectValue, known_in, tree_in}
 use Rattle.sve_named.specs.declared.located.Located.{Located}
@@ -90,7 +89,7 @@ module _ (p : ProjectValue) where
   -- What is found of the name in the scope at the end of the way, in those around it in its body, and then in the scope of the compilation unit.
   abbrev pub located_at : FoundValue → List ℕ → Sought
   located_at found n =
-      or_outward (sought_from found.facts.scopes found.rest n (length found.rest)) (sought_by is_where.CompilationUnit (meaning_in n (scope_around_body (definition_of found.visit.spec))))
+      or_outward (sought_from found.facts.scopes found.rest n (length found.rest)) (sought_by is_where.CompilationUnit (meaning_in n (scope_around_body found.visit.spec.definition)))
 
   -- the declaration that the name means there
   abbrev pub named_at : FoundValue → List ℕ → Option Declared

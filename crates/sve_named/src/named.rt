@@ -2,7 +2,6 @@
 ghost use Rattle.std.specs.Prelude.{◌≡◌, ◌≤◌, [], IfOk, length, option_map};
 ghost use Rattle.sve_scope.specs.Lookup.{meaning_of};
 ghost use Rattle.sve_find.specs.Ends.{found_value};
-ghost use Rattle.sve_design.specs.Walk.{definition_of};
 ghost use Rattle.sve_named.specs.Scopes.{meaning_in};
 ghost use Rattle.sve_named.specs.Named.{declared_in, located_at, member_of, named_at, or_outward, scope_around_body, sought_by, sought_from, sought_within};
 

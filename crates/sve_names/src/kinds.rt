@@ -2,7 +2,7 @@
 use std::alloc::Global;
 use sve_bytes::{List, NoMemory};
 use sve_row::name_of;
-use sve_scope::{Constant, FaceName, SharedType, What};
+use sve_scope::{Constant, Face, FaceName, SharedType, What};
 use sve_types::{Base, Ty, Vec_};
 
 /// A type, for declarations that have one.
@@ -28,9 +28,12 @@ fn constant(alloc: Global) -> Result<Constant, NoMemory> {
 /// An interface port.
 fn interface_port(alloc: Global) -> Result<Option<What>, NoMemory> {
     match name_of(alloc, b"i")? {
-        Some(interface) => Ok(Some(What::InterfacePort(FaceName {
-            interface,
-            modport: None,
+        Some(interface) => Ok(Some(What::InterfacePort(Face {
+            name: FaceName {
+                interface,
+                modport: None,
+            },
+            names: None,
         }))),
         None => Ok(None),
     }

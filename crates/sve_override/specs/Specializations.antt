@@ -1,10 +1,10 @@
 -- The specialization of an instance (IEEE 1800-2017, 23.10). Interface ports are given nothing here.
-use Rattle.std.specs.Prelude.{ℕ, Bool, false, if◌then◌else◌, List, Option, Some, None, is_some}
+use Rattle.std.specs.Prelude.{ℕ, Bool, false, if◌then◌else◌, List, [], Option, Some, None, is_some}
 use Rattle.sve_tree.specs.declared.token_word.Word.{Word}
 use Rattle.sve_tree.specs.declared.element.Element.{Element}
 use Rattle.sve_tree.specs.declared.item.Instance.{Instance}
 use Rattle.sve_spec.specs.declared.given.Given.{Given}
-use Rattle.sve_spec.specs.Specialization.{Specialization, specialization, no_face}
+use Rattle.sve_spec.specs.declared.spec.Spec.{Spec}
 use Rattle.sve_scope.specs.Scopes.{declaration_of}
 use Rattle.sve_known.specs.Naming.{name_at}
 use Rattle.sve_contents.specs.declared.contents.Contents.{Contents}
@@ -22,9 +22,9 @@ has_declared c (Some n) = is_some (declaration_of n c.scope.declared)
 abbrev pub is_again : List Word → Contents → ℕ → Bool
 is_again ws c token = has_declared c (name_at ws token)
 
-abbrev pub spec_named : Option (List ℕ) → List Given → Option Specialization
+abbrev pub spec_named : Option (List ℕ) → List Given → Option Spec
 spec_named None given = None
-spec_named (Some n) given = Some (specialization n given no_face)
+spec_named (Some n) given = Some (record { definition = n; values = given; faces = [] })
 
 abbrev pub unspecialized : Contents → Specialized
 unspecialized c = record { contents = c; spec = None }

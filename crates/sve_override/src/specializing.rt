@@ -67,7 +67,7 @@ fn spec_named(
         Some(name) => Ok(Some(Spec {
             definition: name.copy()?,
             values: given,
-            faces: Vec::new(alloc),
+            faces: List::of(Vec::new(alloc)),
         })),
         None => Ok(None),
     }

@@ -1,7 +1,7 @@
 -- What a call gives that follows a plan, where the object that it reads through tells every question's answer.
 use Rattle.std.proofs.Common.{◌≡◌, ℕ, ◌-◌, ◌^◌, Bool, true, false, cond, List, Some, Result, Ok, Err, IfOk, nat_le, refl, ap, sym, ◌∙◌}
 use Rattle.sve_io.specs.declared.halt.Halt.{Halt}
-use Rattle.sve_spec.specs.Specialization.{Specialization}
+use Rattle.sve_spec.specs.declared.spec.Spec.{Spec}
 use Rattle.sve_facts.specs.declared.facts.Facts.{Facts}
 use Rattle.sve_facts.specs.declared.facts.Port.{Port}
 use Rattle.sve_facts.specs.declared.bodies.Body.{Body}
@@ -36,20 +36,20 @@ within_value false facts cost = refl
 some_is : (x y : BodyValue) → Some x ≡ Some y → x ≡ y
 some_is x y is = cc
 
-pub answer_is : (p : ProjectValue) (spec : Specialization) (fuel : ℕ) (body : BodyValue) → outcome_value (run (told_all (reply_in p)) fuel 0 (elaborated spec)) ≡ Some body → body ≡ answer_of (design_of p) (OfBody spec fuel)
+pub answer_is : (p : ProjectValue) (spec : Spec) (fuel : ℕ) (body : BodyValue) → outcome_value (run (told_all (reply_in p)) fuel 0 (elaborated spec)) ≡ Some body → body ≡ answer_of (design_of p) (OfBody spec fuel)
 unfolding design_of
 answer_is p spec fuel body is =
     some_is body _ (sym is ∙ ap outcome_value (settles (elaborated spec) (reply_in p) fuel) ∙ within_value (nat_le (body_of p spec).0 fuel) (body_of p spec).1 (body_of p spec).0)
 
 -- ---- as what a call gives
 
-pub body_is : (p : ProjectValue) (spec : Specialization) (fuel : ℕ) (result : Result Body Halt)
+pub body_is : (p : ProjectValue) (spec : Spec) (fuel : ℕ) (result : Result Body Halt)
     → IfOk result (λ body. outcome_value (run (told_all (reply_in p)) fuel 0 (elaborated spec)) ≡ Some (body_value body))
     → IfOk result (λ body. body_value body ≡ answer_of (design_of p) (OfBody spec fuel))
 body_is p spec fuel (Ok body) is = answer_is p spec fuel (body_value body) is
 body_is p spec fuel (Err halt) is = tt
 
-pub ports_are : (p : ProjectValue) (spec : Specialization) (result : Result (List Port) Halt)
+pub ports_are : (p : ProjectValue) (spec : Spec) (result : Result (List Port) Halt)
     → IfOk result (λ ports. (cost : ℕ) × (run (told_all (reply_but_ports p)) (2 ^ 64 - 1) 0 (header_ports spec) ≡ Done ports cost))
     → IfOk result (λ ports. ports ≡ ports_of p spec)
 unfolding ports_of

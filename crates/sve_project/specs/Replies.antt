@@ -1,7 +1,7 @@
 -- What the elaboration of bodies is told of a project, and the design that follows (IEEE 1800-2017, 3.12.1, clauses 23 and 26).
 use Rattle.std.specs.Prelude.{ℕ, List, [], map, option_map, unwrap_or}
 use Rattle.sve_table.specs.Tables.{item_of}
-use Rattle.sve_spec.specs.Specialization.{Specialization}
+use Rattle.sve_spec.specs.declared.spec.Spec.{Spec}
 use Rattle.sve_facts.specs.declared.facts.Facts.{Facts}
 use Rattle.sve_facts.specs.declared.facts.Port.{Port}
 use Rattle.sve_facts.specs.Facts.{no_facts}
@@ -28,7 +28,7 @@ reply_but_ports p (PackageOf name) = facts_named p name
 reply_but_ports p (PortsOf spec) = []
 
 -- the ports of a specialization are those of its header (23.2.2)
-unfoldable pub ports_of : ProjectValue → Specialization → List Port
+unfoldable pub ports_of : ProjectValue → Spec → List Port
 ports_of p spec = (settled (reply_but_ports p) 0 (header_ports spec)).1
 
 -- what a body is told
@@ -40,7 +40,7 @@ reply_in p (PackageOf name) = facts_named p name
 reply_in p (PortsOf spec) = ports_of p spec
 
 -- what is found of the body of a specialization, with what that costs
-abbrev pub body_of : ProjectValue → Specialization → Counted Facts
+abbrev pub body_of : ProjectValue → Spec → Counted Facts
 body_of p spec = settled (reply_in p) 0 (elaborated spec)
 
 -- the design of a project: its tops, in the order of the index, and the bodies of all specializations

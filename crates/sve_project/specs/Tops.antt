@@ -9,7 +9,7 @@ use Rattle.sve_index.specs.declared.def.Def.{Def}
 use Rattle.sve_index.specs.Defs.{def_name}
 use Rattle.sve_spec.specs.declared.given.Given.{Given}
 use Rattle.sve_spec.specs.declared.given.Given.TheVariants.{Default}
-use Rattle.sve_spec.specs.Specialization.{Specialization, no_face, specialization}
+use Rattle.sve_spec.specs.declared.spec.Spec.{Spec}
 use Rattle.sve_formal.specs.declared.formal.Formal.{Formal}
 use Rattle.sve_formal.specs.Formals.{can_be_overridden, formals_of}
 use Rattle.sve_project.specs.Projects.{ProjectValue, tree_in}
@@ -32,5 +32,5 @@ values_at p None = []
 values_at p (Some def) = values_in (tree_in p def.file def.chunk)
 
 -- a module that overrides nothing, and whose interface ports are given nothing
-unfoldable pub top_spec : ProjectValue → List ℕ → Specialization
-top_spec p name = specialization name (values_at p (item_of def_name name p.index.definitions)) no_face
+unfoldable pub top_spec : ProjectValue → List ℕ → Spec
+top_spec p name = record { definition = name; values = values_at p (item_of def_name name p.index.definitions); faces = [] }

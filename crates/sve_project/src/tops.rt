@@ -65,7 +65,7 @@ fn top_spec(alloc: Global, project: &Project, name: &Name) -> Result<Spec, NoMem
     Ok(Spec {
         definition: name.copy()?,
         values: List::of(values),
-        faces: Vec::new(alloc),
+        faces: List::of(Vec::new(alloc)),
     })
 }
 

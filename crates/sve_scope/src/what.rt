@@ -1,9 +1,10 @@
 ghost use Rattle.std.specs.Prelude.{◌≡◌, IfOk};
 ghost use Rattle.sve_scope.specs.Declarations.{is_whole};
 
-use crate::SharedType;
+use crate::{SharedInterface, SharedType};
 use std::alloc::Global;
 use sve_bytes::{Name, NoMemory};
+use sve_table::Named;
 use sve_types::Value;
 
 /// What a name of a constant stands for.
@@ -37,6 +38,42 @@ impl Drop for FaceName {
     }
 }
 
+/// An interface port (IEEE 1800-2017, 25.3).
+pub struct Face {
+    /// Its interface, and the modport through which it is given what it is connected to, where there is one.
+    pub name: FaceName,
+    /// The names of the interface, where it is connected to something that fits. Of the members of one that is not, nothing is known.
+    pub names: Option<SharedInterface>,
+}
+
+impl Drop for Face {
+    fn drop(self) {
+        let Face { name: _, names: _ } = self;
+    }
+}
+
+/// An interface port by its name, and what it is connected to.
+pub struct PortFace {
+    /// The name of the port.
+    pub port: Name,
+    /// What it is connected to.
+    pub face: Face,
+}
+
+impl Drop for PortFace {
+    fn drop(self) {
+        let PortFace { port: _, face: _ } = self;
+    }
+}
+
+impl Named for PortFace {
+    ghost called = { λ f. f.port };
+
+    fn name(&self) -> &Name {
+        &self.port
+    }
+}
+
 /// What a declared name stands for.
 pub enum What {
     /// A net, of this type (IEEE 1800-2017, 6.7).
@@ -62,7 +99,7 @@ pub enum What {
     /// A modport of an interface (25.5).
     Modport,
     /// An interface port (25.3).
-    InterfacePort(FaceName),
+    InterfacePort(Face),
 }
 
 impl Drop for What {
@@ -111,6 +148,15 @@ fn copy_of_name(name: &Option<Name>) -> Result<Option<Name>, NoMemory>
     }
 }
 
+fn copy_of_names(names: &Option<SharedInterface>) -> Result<Option<SharedInterface>, NoMemory>
+    ensures { IfOk result (λ n. n ≡ names.now) }
+{
+    match names {
+        Some(names) => Ok(Some(names.copy()?)),
+        None => Ok(None),
+    }
+}
+
 impl Constant {
     /// The same, whose type is shared.
     pub fn copy(&self, alloc: Global) -> Result<Constant, NoMemory>
@@ -131,6 +177,18 @@ impl FaceName {
         Ok(FaceName {
             interface: self.interface.copy()?,
             modport: copy_of_name(&self.modport)?,
+        })
+    }
+}
+
+impl Face {
+    /// The same, whose names are shared.
+    pub fn copy(&self) -> Result<Face, NoMemory>
+        ensures { IfOk result (λ f. f ≡ self.now) }
+    {
+        Ok(Face {
+            name: self.name.copy()?,
+            names: copy_of_names(&self.names)?,
         })
     }
 }

@@ -2,16 +2,8 @@
 use Rattle.std.proofs.Common.{◌≡◌, ℕ, zero, suc, ◌+◌, ◌≤◌, ◌<◌, List, [], ◌∷◌, length, get_or, arith}
 use Rattle.sve_types.specs.DataType.{DataType}
 use Rattle.sve_types.specs.View.{members_of, size_of, members_size}
-use Rattle.sve_spec.specs.Specialization.{size_of as size_of_spec, faces_size}
-use Rattle.sve_spec.specs.View.{faces_of}
-use Rattle.sve_spec.specs.declared.spec.FaceGiven.{FaceGiven}
 
 pub size_of_member : (ms : List (List ℕ × DataType)) (i : ℕ) (m : List ℕ × DataType) → i < length ms → m ≡ get_or ms i m → size_of m.1 + 1 ≤ members_size (members_of ms)
 size_of_member [] i m within is = absurd (omega arith)
 size_of_member (n ∷ ms) zero m within is = rw is (omega arith)
 size_of_member (n ∷ ms) (suc i) m within is = let there : i < length ms = omega arith in omega (arith, size_of_member ms i m there is)
-
-pub size_of_face : (fs : List FaceGiven) (i : ℕ) (f : FaceGiven) → i < length fs → f ≡ get_or fs i f → size_of_spec f.spec + 1 ≤ faces_size (faces_of fs)
-size_of_face [] i f within is = absurd (omega arith)
-size_of_face (g ∷ fs) zero f within is = rw is (omega arith)
-size_of_face (g ∷ fs) (suc i) f within is = let there : i < length fs = omega arith in omega (arith, size_of_face fs i f there is)

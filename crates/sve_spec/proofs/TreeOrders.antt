@@ -16,10 +16,7 @@ use Rattle.sve_value.specs.Planes.{vector}
 use Rattle.sve_value.specs.Back.{length-planes, ones_word-planes, unknowns_word-planes}
 use Rattle.sve_types.specs.DataType.{DataType}
 use Rattle.sve_types.specs.View.{members_of}
-use Rattle.sve_spec.specs.View.{faces_of}
-use Rattle.sve_spec.specs.declared.spec.FaceGiven.{FaceGiven}
-use Rattle.sve_spec.specs.Trees.{bits_tree, bool_tree, int_tree, list_tree, name_tree, member_tree, members_tree, faces_tree, spec_tree}
-use Rattle.sve_spec.specs.FaceTrees.{face_tree}
+use Rattle.sve_spec.specs.Trees.{bits_tree, bool_tree, int_tree, list_tree, name_tree, member_tree, members_tree, spec_tree}
 use Rattle.sve_spec.specs.OneValue.{one_spec}
 use Rattle.sve_spec.specs.SpecOrder.{spec_cmp}
 
@@ -42,14 +39,10 @@ name_is [] (y ∷ ys) = refl
 name_is (x ∷ xs) [] = refl
 name_is (x ∷ xs) (y ∷ ys) = ap (ordering_then (nat_cmp x y)) (name_is xs ys)
 
--- members and interface ports as rows
+-- members as a row
 pub members_list : (ms : List (List ℕ × DataType)) → members_tree (members_of ms) ≡ list_tree member_tree ms
 members_list [] = refl
 members_list (m ∷ ms) = ap (gcons (member_tree m)) (members_list ms)
-
-pub faces_list : (fs : List FaceGiven) → faces_tree (faces_of fs) ≡ list_tree face_tree fs
-faces_list [] = refl
-faces_list (f ∷ fs) = ap (gcons (face_tree f)) (faces_list fs)
 
 split_there : {X : Type 0} (xs : List X) (i : ℕ) (x : X) → slice_get xs i ≡ Some x → drop i xs ≡ x ∷ drop (i + 1) xs
 split_there {X = X} xs i x h = rw (add-one i) (at xs i h)

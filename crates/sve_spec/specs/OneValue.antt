@@ -1,6 +1,5 @@
 -- What has the same tree is the same.
 use Rattle.std.specs.Prelude.{◌≡◌, ℕ, pos, negsuc, ◌<◌, true, false, List, [], ◌∷◌, length, Some, None, refl}
-use Rattle.std.specs.Coded.{Coded}
 use Rattle.std.proofs.Common.{ap, arith}
 use base.Stored.{Gv, gnum}
 use Rattle.sve_value.specs.declared.bit.Bit.{Bit}
@@ -13,8 +12,7 @@ use Rattle.sve_types.specs.declared.ty.Vec_.TheVariants.{Bit as bit, Logic as lo
 use Rattle.sve_types.specs.DataType.{data_type, Form, atom, vector, enumeration, structure, text, Members, no_member, member}
 use Rattle.sve_types.specs.declared.value.Value.TheVariants as is_value
 use Rattle.sve_spec.specs.declared.given.Given.TheVariants as is_given
-use Rattle.sve_spec.specs.Specialization.{Specialization, specialization, Faces, no_face, face}
-use Rattle.sve_spec.specs.Trees.{bool_tree, int_tree, list_tree, name_tree, option_tree, bits_tree, range_tree, named_bits_tree, atom_number, vec_number, type_tree, form_tree, members_tree, value_tree, given_tree, spec_tree, faces_tree}
+use Rattle.sve_spec.specs.Trees.{bool_tree, int_tree, list_tree, name_tree, option_tree, bits_tree, range_tree, named_bits_tree, atom_number, vec_number, type_tree, form_tree, members_tree, value_tree, given_tree, face_tree, spec_tree}
 
 -- two things with the same tree are one
 abbrev pub IsOne : {X : Type 0} → (X → Gv) → Type 0
@@ -182,23 +180,22 @@ one_given (is_given.Value a) (is_given.Value b) e = let s : a ≡ b = one_value 
 one_given is_given.Bad is_given.Bad e = refl
 one_given x y e = cc
 
-mutual
-  pub one_spec : (x y : Specialization) → spec_tree x ≡ spec_tree y → x ≡ y
-  one_spec (specialization d v f) (specialization e w g) h =
-      let a : d ≡ e = one_name d e cc in
-      let b : v ≡ w = one_list given_tree one_given v w cc in
-      let c : f ≡ g = one_faces f g cc in
-      cc
+one_face : IsOne face_tree
+one_face f g e =
+    let ports : name_tree f.port ≡ name_tree g.port = cc in
+    let interfaces : name_tree f.interface ≡ name_tree g.interface = cc in
+    let modports : option_tree name_tree f.modport ≡ option_tree name_tree g.modport = cc in
+    let port : f.port ≡ g.port = one_name f.port g.port ports in
+    let interface : f.interface ≡ g.interface = one_name f.interface g.interface interfaces in
+    let modport : f.modport ≡ g.modport = one_option name_tree one_name f.modport g.modport modports in
+    λ i. record { port = port i; interface = interface i; modport = modport i }
 
-  one_faces : (x y : Faces) → faces_tree x ≡ faces_tree y → x ≡ y
-  one_faces no_face no_face e = refl
-  one_faces (face p s m f) (face q t n g) e =
-      let a : p ≡ q = one_name p q cc in
-      let b : s ≡ t = one_spec s t cc in
-      let c : m ≡ n = one_option name_tree one_name m n cc in
-      let d : f ≡ g = one_faces f g cc in
-      cc
-  one_faces x y e = cc
-
-pub specialization_code : Coded Specialization
-specialization_code = record { code = spec_tree; inj = one_spec }
+pub one_spec : IsOne spec_tree
+one_spec s t e =
+    let definitions : name_tree s.definition ≡ name_tree t.definition = cc in
+    let givens : list_tree given_tree s.values ≡ list_tree given_tree t.values = cc in
+    let given_faces : list_tree face_tree s.faces ≡ list_tree face_tree t.faces = cc in
+    let definition : s.definition ≡ t.definition = one_name s.definition t.definition definitions in
+    let values : s.values ≡ t.values = one_list given_tree one_given s.values t.values givens in
+    let faces : s.faces ≡ t.faces = one_list face_tree one_face s.faces t.faces given_faces in
+    λ i. record { definition = definition i; values = values i; faces = faces i }

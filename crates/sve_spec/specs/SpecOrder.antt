@@ -4,10 +4,10 @@ use Rattle.std.specs.Ordering.{on}
 use Rattle.std.specs.declared.cmp.Ordering.{Ordering}
 use Rattle.sve_bytes.specs.TreeOrder.{tree_cmp}
 use Rattle.sve_bytes.proofs.TreesAreOrdered.{trees_total}
-use Rattle.sve_spec.specs.Specialization.{Specialization}
+use Rattle.sve_spec.specs.declared.spec.Spec.{Spec}
 use Rattle.sve_spec.specs.Trees.{spec_tree}
 
-abbrev pub spec_cmp : Specialization → Specialization → Ordering
+abbrev pub spec_cmp : Spec → Spec → Ordering
 spec_cmp = on spec_tree tree_cmp
 
 -- it is total

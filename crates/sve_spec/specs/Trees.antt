@@ -13,7 +13,8 @@ use Rattle.sve_types.specs.declared.value.Value.{Value}
 use Rattle.sve_types.specs.declared.value.Value.TheVariants as is_value
 use Rattle.sve_spec.specs.declared.given.Given.{Given}
 use Rattle.sve_spec.specs.declared.given.Given.TheVariants as is_given
-use Rattle.sve_spec.specs.Specialization.{Specialization, specialization, Faces, no_face, face}
+use Rattle.sve_spec.specs.declared.spec.FaceGiven.{FaceGiven}
+use Rattle.sve_spec.specs.declared.spec.Spec.{Spec}
 
 abbrev pub bool_tree : Bool → Gv
 bool_tree false = gnum 0
@@ -91,11 +92,8 @@ given_tree is_given.Default = gcons (gnum 0) gnil
 given_tree (is_given.Value value) = gcons (gnum 1) (value_tree value)
 given_tree is_given.Bad = gcons (gnum 2) gnil
 
-abbrev mutual
-  pub spec_tree : Specialization → Gv
-  spec_tree (specialization definition values faces) = gcons (name_tree definition) (gcons (list_tree given_tree values) (faces_tree faces))
+abbrev pub face_tree : FaceGiven → Gv
+face_tree f = gcons (name_tree f.port) (gcons (name_tree f.interface) (option_tree name_tree f.modport))
 
-  pub faces_tree : Faces → Gv
-  faces_tree no_face = gnil
-  faces_tree (face port spec modport faces) =
-      gcons (gcons (name_tree port) (gcons (spec_tree spec) (option_tree name_tree modport))) (faces_tree faces)
+abbrev pub spec_tree : Spec → Gv
+spec_tree s = gcons (name_tree s.definition) (gcons (list_tree given_tree s.values) (list_tree face_tree s.faces))

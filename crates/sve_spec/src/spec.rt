@@ -1,14 +1,11 @@
 ghost use Rattle.std.specs.Prelude.{◌≡◌, IfOk};
-ghost use Rattle.sve_spec.specs.View.{faces_of};
 
 use crate::Given;
 use std::alloc::Global;
-use std::marker::Model;
 use sve_bytes::{List, Name, NoMemory};
+use sve_table::Named;
 
-/// A specialization of a module or an interface. A clause sees it as what it says, wherever its parts lie in memory, so it is
-/// equal to its copy.
-#[cycle(spec)]
+/// A specialization of a module or an interface.
 #[derive(Drop)]
 pub struct Spec {
     /// The name of the module or the interface.
@@ -16,39 +13,26 @@ pub struct Spec {
     /// What each of its parameters that can be overridden is given, in the order of its text.
     pub values: List<Given>,
     /// What its interface ports are given, in the order of its text.
-    pub faces: Vec<FaceGiven>,
+    pub faces: List<FaceGiven>,
 }
 
 /// What an interface port is given (IEEE 1800-2017, 25.3 and 25.5).
-#[cycle(spec)]
 #[derive(Drop)]
 pub struct FaceGiven {
     /// The name of the port.
     pub port: Name,
-    /// The specialization of the interface of whose instance the port is.
-    pub spec: Spec,
-    /// The modport, where one is given.
+    /// The name of the interface of whose instance the port is.
+    pub interface: Name,
+    /// The modport through which it is given, where there is one.
     pub modport: Option<Name>,
 }
 
-impl Model for Spec {
-    ghost use Rattle.sve_spec.specs.Specialization.{Specialization};
-    ghost use Rattle.sve_spec.specs.OneValue.{specialization_code};
+impl Named for FaceGiven {
+    ghost called = { λ f. f.port };
 
-    ghost Value = { Specialization };
-
-    ghost coded = { specialization_code };
-
-    ghost use Rattle.sve_spec.specs.View.{view_of};
-    ghost use Rattle.sve_spec.specs.Specialization.{size_of};
-
-    ghost view = { view_of };
-
-    ghost size = { size_of };
-
-    ghost use Rattle.sve_spec.specs.Falls.{falls};
-
-    ghost size_decreases = { λ a h. falls a };
+    fn name(&self) -> &Name {
+        &self.port
+    }
 }
 
 fn copy_of_modport(modport: &Option<Name>) -> Result<Option<Name>, NoMemory>
@@ -70,32 +54,27 @@ fn copy_of_values(alloc: Global, values: &[Given]) -> Result<List<Given>, NoMemo
     Ok(List::of(copies))
 }
 
-#[cycle(copy)]
-#[tactic(auto, using(crate::proofs::Rows::size_of_face))]
-fn copy_of(alloc: Global, spec: &Spec) -> Result<Spec, NoMemory>
-    ensures { IfOk result (λ copy. copy ≡ spec.now) }
-{
-    Ok(Spec {
-        definition: spec.definition.copy()?,
-        values: copy_of_values(alloc, spec.values.items())?,
-        faces: copy_of_faces(alloc, &spec.faces)?,
-    })
-}
-
-#[cycle(copy)]
-#[tactic(auto, using(crate::proofs::Rows::size_of_face))]
-fn copy_of_faces(alloc: Global, faces: &[FaceGiven]) -> Result<Vec<FaceGiven>, NoMemory>
-    ensures { IfOk result (λ copies. copies.items ≡ faces.now) }
+fn copy_of_faces(alloc: Global, faces: &[FaceGiven]) -> Result<List<FaceGiven>, NoMemory>
+    ensures { IfOk result (λ l. l ≡ faces.now) }
 {
     let mut copies = Vec::new(alloc);
     'faces: for face in faces {
-        copies.push(FaceGiven {
-            port: face.port.copy()?,
-            spec: copy_of(alloc, &face.spec)?,
-            modport: copy_of_modport(&face.modport)?,
-        })?;
+        copies.push(face.copy()?)?;
     }
-    Ok(copies)
+    Ok(List::of(copies))
+}
+
+impl FaceGiven {
+    /// The same, with memory of its own.
+    pub fn copy(&self) -> Result<FaceGiven, NoMemory>
+        ensures { IfOk result (λ f. f ≡ self.now) }
+    {
+        Ok(FaceGiven {
+            port: self.port.copy()?,
+            interface: self.interface.copy()?,
+            modport: copy_of_modport(&self.modport)?,
+        })
+    }
 }
 
 impl Spec {
@@ -103,7 +82,11 @@ impl Spec {
     pub fn copy(&self, alloc: Global) -> Result<Spec, NoMemory>
         ensures { IfOk result (λ s. s ≡ self.now) }
     {
-        copy_of(alloc, self)
+        Ok(Spec {
+            definition: self.definition.copy()?,
+            values: copy_of_values(alloc, self.values.items())?,
+            faces: copy_of_faces(alloc, self.faces.items())?,
+        })
     }
 }
 

@@ -1,11 +1,10 @@
 ghost use Rattle.std.specs.Prelude.{◌≡◌};
 ghost use Rattle.sve_bytes.specs.TreeOrder.{tree_cmp};
-ghost use Rattle.sve_spec.specs.Trees.{list_tree, spec_tree};
-ghost use Rattle.sve_spec.specs.FaceTrees.{face_tree};
+ghost use Rattle.sve_spec.specs.Trees.{spec_tree};
 
 use crate::row_order::row_order;
-use crate::spec::{FaceGiven, Spec};
-use crate::value_order::{name_order, option_order};
+use crate::spec::Spec;
+use crate::value_order::name_order;
 use std::cmp::Ordering;
 
 /// Specializations are equal where the order does not tell them apart.
@@ -66,39 +65,12 @@ impl Ord for Spec {
     }
 }
 
-#[cycle(specs)]
-#[tactic(auto, using(crate::proofs::Rows::size_of_face, crate::proofs::TreeOrders::faces_list))]
 fn spec_order(spec: &Spec, other: &Spec) -> Ordering
     ensures { result ≡ tree_cmp (spec_tree spec.now) (spec_tree other.now) }
 {
-    let given = row_order(spec.values.items(), other.values.items()).then(faces_order(
-        &spec.faces,
-        &other.faces,
+    let given = row_order(spec.values.items(), other.values.items()).then(row_order(
+        spec.faces.items(),
+        other.faces.items(),
     ));
     name_order(&spec.definition, &other.definition).then(given)
-}
-
-#[cycle(specs)]
-#[tactic(auto, using(crate::proofs::Rows::size_of_face, crate::proofs::TreeOrders::faces_list))]
-fn faces_order(faces: &[FaceGiven], other: &[FaceGiven]) -> Ordering
-    ensures { result ≡ tree_cmp (list_tree face_tree faces.now) (list_tree face_tree other.now) }
-{
-    'faces: for (place, face) in faces.iter().enumerate() {
-        let Some(opposite) = other.get(place) else {
-            return Ordering::Greater;
-        };
-        let given = spec_order(&face.spec, &opposite.spec).then(option_order(
-            &face.modport,
-            &opposite.modport,
-        ));
-        let order = name_order(&face.port, &opposite.port).then(given);
-        if order.is_ne() {
-            return order;
-        }
-    }
-    if faces.len() < other.len() {
-        Ordering::Less
-    } else {
-        Ordering::Equal
-    }
 }

@@ -1,10 +1,10 @@
 ghost use Rattle.std.specs.Prelude.{◌≡◌};
 ghost use Rattle.sve_bytes.specs.TreeOrder.{tree_cmp};
-ghost use Rattle.sve_spec.specs.Trees.{bits_tree, bool_tree, given_tree, int_tree, name_tree, option_tree, value_tree};
+ghost use Rattle.sve_spec.specs.Trees.{bits_tree, bool_tree, face_tree, given_tree, int_tree, name_tree, option_tree, value_tree};
 
-use crate::Given;
 use crate::row_order::{InOrder, row_order};
 use crate::type_order::type_order;
+use crate::{FaceGiven, Given};
 use std::cmp::Ordering;
 use sve_bytes::Name;
 use sve_types::{Range, Value};
@@ -50,6 +50,16 @@ impl InOrder for Given {
     }
 }
 
+impl InOrder for FaceGiven {
+    ghost use Rattle.sve_spec.specs.Trees.{face_tree};
+
+    ghost tree = { face_tree };
+
+    fn order(&self, other: &FaceGiven) -> Ordering {
+        face_order(self, other)
+    }
+}
+
 /// How a truth value stands to another.
 #[tactic(auto, using(crate::proofs::TreeOrders::bool_is))]
 pub(crate) fn bool_order(value: bool, other: bool) -> Ordering
@@ -85,7 +95,7 @@ pub(crate) fn name_order(name: &Name, other: &Name) -> Ordering
 }
 
 /// How a name that may be missing stands to another.
-pub(crate) fn option_order(name: &Option<Name>, other: &Option<Name>) -> Ordering
+fn option_order(name: &Option<Name>, other: &Option<Name>) -> Ordering
     ensures { result ≡ tree_cmp (option_tree name_tree name.now) (option_tree name_tree other.now) }
 {
     match name {
@@ -155,4 +165,15 @@ fn given_order(given: &Given, other: &Given) -> Ordering
             Given::Bad => Ordering::Equal,
         },
     }
+}
+
+/// How what an interface port is given stands to another.
+fn face_order(face: &FaceGiven, other: &FaceGiven) -> Ordering
+    ensures { result ≡ tree_cmp (face_tree face.now) (face_tree other.now) }
+{
+    let given = name_order(&face.interface, &other.interface).then(option_order(
+        &face.modport,
+        &other.modport,
+    ));
+    name_order(&face.port, &other.port).then(given)
 }

@@ -2,7 +2,7 @@
 use Rattle.std.proofs.Common.{◌≡◌, Bool, true, false, List, [], map, ap, sym, ◌∙◌, subst}
 use Rattle.std.specs.Prelude.{nat_le}
 use Rattle.std.proofs.lemmas.Bool.{le-leb, lt-leb}
-use Rattle.sve_spec.specs.Specialization.{Specialization}
+use Rattle.sve_spec.specs.declared.spec.Spec.{Spec}
 use Rattle.sve_told.specs.Told.{asked_on}
 use Rattle.sve_facts.specs.Bodies.{Design}
 use Rattle.sve_design.specs.declared.visits.Visit.{Visit}
@@ -46,8 +46,8 @@ first_seen {A} design p q e =
     s.visitor
 
 -- the part that a top gives
-pub top_part : (design : Design) (top : Specialization) (visit : Visit) → visit ≡ top_visit top → seen_below design 64 visit [] ≡ seen_below design 64 (top_visit top) []
+pub top_part : (design : Design) (top : Spec) (visit : Visit) → visit ≡ top_visit top → seen_below design 64 visit [] ≡ seen_below design 64 (top_visit top) []
 top_part design top visit e = ap (λ (v : Visit). seen_below design 64 v []) e
 
-pub top_tree : (design : Design) (top : Specialization) (visit : Visit) → visit ≡ top_visit top → subtree design 64 visit.depth visit.path visit.spec ≡ subtree design 64 1 (top_path top) top
+pub top_tree : (design : Design) (top : Spec) (visit : Visit) → visit ≡ top_visit top → subtree design 64 visit.depth visit.path visit.spec ≡ subtree design 64 1 (top_path top) top
 top_tree design top visit e = ap (λ (v : Visit). subtree design 64 v.depth v.path v.spec) e

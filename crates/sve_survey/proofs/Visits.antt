@@ -2,7 +2,7 @@
 use Rattle.std.proofs.Common.{◌≡◌, ℕ, zero, suc, ◌+◌, List, [], ◌∷◌, ◌++◌, map, refl, ap, ◌∙◌}
 use Rattle.std.specs.List.{flat_map}
 use Rattle.std.proofs.lemmas.List.{map-append}
-use Rattle.sve_spec.specs.Specialization.{Specialization}
+use Rattle.sve_spec.specs.declared.spec.Spec.{Spec}
 use Rattle.sve_facts.specs.declared.facts.Child.{Child}
 use Rattle.sve_facts.specs.Bodies.{Design}
 use Rattle.sve_design.specs.declared.visits.Visit.{Visit}
@@ -23,4 +23,4 @@ visits_below design (suc levels) visit unconnected =
 
 pub visits_of_all : (design : Design) → map visit_of (seen design) ≡ instances design
 visits_of_all design =
-    visits_of_each (λ (top : Specialization). seen_below design 64 (top_visit top) []) (λ (top : Specialization). subtree design 64 1 (top_path top) top) design.tops (λ top. visits_below design 64 (top_visit top) [])
+    visits_of_each (λ (top : Spec). seen_below design 64 (top_visit top) []) (λ (top : Spec). subtree design 64 1 (top_path top) top) design.tops (λ top. visits_below design 64 (top_visit top) [])

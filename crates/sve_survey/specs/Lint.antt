@@ -5,7 +5,6 @@ use Rattle.std.specs.Str.{bytes_eq}
 use Rattle.sve_facts.specs.declared.facts.Port.{Port}
 use Rattle.sve_lint.specs.declared.instance.InstanceFacts.{InstanceFacts}
 use Rattle.sve_lint.specs.declared.instance.UnconnectedPort.{UnconnectedPort}
-use Rattle.sve_design.specs.Walk.{definition_of}
 use Rattle.sve_survey.specs.Seen.{Instance}
 use Rattle.sve_survey.specs.Visitors.{VisitorState}
 
@@ -23,7 +22,7 @@ ports_among names ports = flat_map (port_if (is_among names)) ports
 
 -- an instance: its path, its module, its depth, and its ports that its parent connects to nothing, which stand in its body
 abbrev pub lint_facts : Instance → InstanceFacts
-lint_facts instance = record { path = instance.visit.path; «module» = definition_of instance.visit.spec; depth = instance.visit.depth; unconnected = ports_among instance.unconnected instance.facts.ports }
+lint_facts instance = record { path = instance.visit.path; «module» = instance.visit.spec.definition; depth = instance.visit.depth; unconnected = ports_among instance.unconnected instance.facts.ports }
 
 -- each instance gives itself
 abbrev pub lint_facts_of : Instance → List InstanceFacts

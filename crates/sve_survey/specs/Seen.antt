@@ -1,7 +1,7 @@
 -- The instances of a design with their bodies (IEEE 1800-2017, 23.3 and 23.6).
 use Rattle.std.specs.Prelude.{ℕ, zero, suc, ◌+◌, ◌-◌, nat_le, if◌then◌else◌, List, [], ◌∷◌}
 use Rattle.std.specs.List.{flat_map}
-use Rattle.sve_spec.specs.Specialization.{Specialization}
+use Rattle.sve_spec.specs.declared.spec.Spec.{Spec}
 use Rattle.sve_facts.specs.declared.facts.Child.{Child}
 use Rattle.sve_facts.specs.declared.facts.Facts.{Facts}
 use Rattle.sve_facts.specs.Bodies.{Design}
@@ -19,7 +19,7 @@ abbrev pub visit_of : Instance → Visit
 visit_of instance = instance.visit
 
 -- a top stands at the path of its name, at depth 1
-abbrev pub top_visit : Specialization → Visit
+abbrev pub top_visit : Spec → Visit
 top_visit top = record { path = top_path top; spec = top; depth = 1 }
 
 -- an instance in the body of another stands inside that, one deeper

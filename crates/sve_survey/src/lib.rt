@@ -2,13 +2,13 @@
 #![tactic(auto)]
 
 mod laws;
-mod notes;
+mod surveyed;
 mod surveying;
 mod unconnections;
 mod visiting;
 
 pub use laws::visits_are_the_instances;
-pub use notes::{Notes, notes_of_instances};
+pub use surveyed::{Surveyed, Surveyor, notes_of_instances, surveyed_instances};
 pub use surveying::survey;
 pub use unconnections::{Unconnections, instances_for_lint};
 pub use visiting::Visitor;

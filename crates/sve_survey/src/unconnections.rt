@@ -14,6 +14,7 @@ use crate::surveying::survey;
 use crate::visiting::Visitor;
 use std::alloc::Global;
 use std::collections::BTreeSet;
+use std::sync::Arc;
 use sve_bytes::{List, Name, NoMemory};
 use sve_design::Visit;
 use sve_facts::{Bodies, Facts, Port};
@@ -129,7 +130,7 @@ impl Visitor for Unconnections {
         alloc: Global,
         visit: &Visit,
         unconnected: &[Name],
-        facts: &Facts,
+        facts: &Arc<Facts>,
     ) -> Result<(), NoMemory> {
         let instance = lint_facts(alloc, visit, unconnected, facts)?;
         self.instances.push(instance)?;

@@ -1,7 +1,9 @@
 ghost use Rattle.std.specs.Prelude.{◌≡◌, OnOk};
+ghost use Rattle.std.specs.Arc.{arc_value};
 ghost use Rattle.sve_survey.specs.Visitors.{VisitorState, having_seen};
 
 use std::alloc::Global;
+use std::sync::Arc;
 use sve_bytes::{Name, NoMemory};
 use sve_design::Visit;
 use sve_facts::Facts;
@@ -24,7 +26,7 @@ pub trait Visitor: Drop {
         alloc: Global,
         visit: &Visit,
         unconnected: &[Name],
-        facts: &Facts,
+        facts: &Arc<Facts>,
     ) -> Result<(), NoMemory>
-        ensures { OnOk result (state self.new ≡ having_seen (record { visit = visit.now; unconnected = unconnected.now; facts = facts.now }) (state self.old)) };
+        ensures { OnOk result (state self.new ≡ having_seen (record { visit = visit.now; unconnected = unconnected.now; facts = arc_value facts.now }) (state self.old)) };
 }

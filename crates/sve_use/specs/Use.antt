@@ -1,5 +1,5 @@
 -- How a name is used in an expression (IEEE 1800-2017, 13.4, 23.6, 23.9 and 26.3).
-use Rattle.std.specs.Prelude.{ℕ, Bool, true, false, if◌then◌else◌, None, List, [], ◌∷◌, map}
+use Rattle.std.specs.Prelude.{ℕ, Bool, true, false, if◌then◌else◌, Option, Some, None, List, [], ◌∷◌, map}
 use Rattle.std.specs.List.{list_any}
 use Rattle.std.specs.Option.{is_none}
 use Rattle.sve_tree.specs.declared.word.ScopedName.{ScopedName}
@@ -41,6 +41,19 @@ is_member postfix = false
 unfoldable pub has_member : List Postfix → Bool
 has_member [] = false
 has_member (postfix ∷ rest) = if is_member postfix then true else if is_select_postfix postfix then has_member rest else false
+
+-- the member right behind a name, by its token
+abbrev pub selected_member : Select → Option ℕ
+selected_member (is_select.Member dot name) = Some name
+selected_member select = None
+
+abbrev pub applied_member : Postfix → Option ℕ
+applied_member (is_postfix.Select select) = selected_member select
+applied_member postfix = None
+
+abbrev pub first_member : List Postfix → Option ℕ
+first_member [] = None
+first_member (postfix ∷ rest) = applied_member postfix
 
 -- how a plain name is used, where nothing calls it
 abbrev pub plain_use : Bool → ScopedName → List Postfix → Use

@@ -2,7 +2,8 @@
 #![tactic(auto)]
 
 mod dotted;
+mod steps;
 mod using;
 
-pub use dotted::dotted_use;
+pub use dotted::{dotted_use, selected_use, unseen_member};
 pub use using::{names_used, taken_out};

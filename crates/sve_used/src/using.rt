@@ -4,7 +4,7 @@ ghost use Rattle.std.specs.List.{fold};
 ghost use Rattle.sve_use.specs.Uses.{uses};
 ghost use Rattle.sve_used.specs.Used.{name_used};
 
-use crate::dotted::dotted_use;
+use crate::dotted::{dotted_use, selected_use};
 use std::alloc::Global;
 use std::mem;
 use sve_bytes::NoMemory;
@@ -50,15 +50,15 @@ impl Resolver for Using<'_> {
         Ok(())
     }
 
-    fn dotted(&mut self, name: u32, _postfixes: &[Postfix]) -> Result<(), NoMemory> {
+    fn dotted(&mut self, name: u32, postfixes: &[Postfix]) -> Result<(), NoMemory> {
         let contents = taken_out(self.alloc, &mut self.contents)?;
-        self.contents = dotted_use(self.text, contents, name)?;
+        self.contents = dotted_use(self.alloc, self.text, contents, name, postfixes)?;
         Ok(())
     }
 
-    fn selected(&mut self, name: u32, _selects: &[Select]) -> Result<(), NoMemory> {
+    fn selected(&mut self, name: u32, selects: &[Select]) -> Result<(), NoMemory> {
         let contents = taken_out(self.alloc, &mut self.contents)?;
-        self.contents = dotted_use(self.text, contents, name)?;
+        self.contents = selected_use(self.alloc, self.text, contents, name, selects)?;
         Ok(())
     }
 }

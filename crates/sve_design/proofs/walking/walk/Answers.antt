@@ -1,5 +1,5 @@
 use Rattle.std.proofs.Common.{◌≡◌, Some, Bool, true, false, refl, ap, ◌∙◌, subst, arith, rules}
-use Rattle.sve_spec.specs.Specialization.{Specialization}
+use Rattle.sve_spec.specs.declared.spec.Spec.{Spec}
 use Rattle.sve_facts.specs.Bodies.{OfTops}
 use Rattle.sve_design.specs.Walk.{inside, subtree, top_path, instances}
 use Rattle.sve_design.specs.Paying.{bodies_asked, pay_all, walk_asks}
@@ -11,7 +11,7 @@ use Rattle.sve_design.proofs.walking.walk.Goals as goal
 pub returns-then-not-branch-clause-walk : goal.returns-then-not-branch-clause-walk
 returns-then-not-branch-clause-walk g c = λ design of.
     let top = c.top-item.result in
-    let f = λ (t : Specialization). subtree design 64 1 (top_path t) t in
+    let f = λ (t : Spec). subtree design 64 1 (top_path t) t in
     let within = c.in_ok-enter.ensures.paid design (λ q a h. of q a ((c.tops.invariant.tells q a).1 h)) in
     let here = subst (λ (r : Bool). (r, record { visits = c.enter.new.progress.visits.items; left = c.enter.new.progress.left; asked = g.B.Bodies.asked c.enter.new.bodies }) ≡ pay_all design (subtree design 64 1 (inside (record { steps = c.of.result }) c.in_ok-path.path) top) (record { visits = c.tops.progress.visits.items; left = c.tops.progress.left; asked = g.B.Bodies.asked c.tops.bodies })) c.if-not-branch.true within in
     spent design _ _ (c.tops.invariant.paid design of ∙ paid_at design f c.items-top-items.result.now c.tops.top-index top (subtree design 64 1 (inside (record { steps = c.of.result }) c.in_ok-path.path) top) _ _ false (omega arith) c.top-item.is (top_part design top c.of.result c.in_ok-path.path (search rules) c.in_ok-path.ensures) here)
@@ -19,7 +19,7 @@ returns-then-not-branch-clause-walk g c = λ design of.
 pub returns-then-not-branch-clause-asked : goal.returns-then-not-branch-clause-asked
 returns-then-not-branch-clause-asked g c = λ design of.
     let top = c.top-item.result in
-    let f = λ (t : Specialization). subtree design 64 1 (top_path t) t in
+    let f = λ (t : Spec). subtree design 64 1 (top_path t) t in
     let within = c.in_ok-enter.ensures.paid design (λ q a h. of q a ((c.tops.invariant.tells q a).1 h)) in
     let here = subst (λ (r : Bool). (r, record { visits = c.enter.new.progress.visits.items; left = c.enter.new.progress.left; asked = g.B.Bodies.asked c.enter.new.bodies }) ≡ pay_all design (subtree design 64 1 (inside (record { steps = c.of.result }) c.in_ok-path.path) top) (record { visits = c.tops.progress.visits.items; left = c.tops.progress.left; asked = g.B.Bodies.asked c.tops.bodies })) c.if-not-branch.true within in
     asked_for design (instances design) _ _ false (c.tops.invariant.paid design of ∙ paid_at design f c.items-top-items.result.now c.tops.top-index top (subtree design 64 1 (inside (record { steps = c.of.result }) c.in_ok-path.path) top) _ _ false (omega arith) c.top-item.is (top_part design top c.of.result c.in_ok-path.path (search rules) c.in_ok-path.ensures) here)
@@ -33,13 +33,13 @@ tops-preserved g c = record {
   not_stopped = c.in_ok-enter.ensures.not_stopped ∙ c.tops.invariant.not_stopped;
   paid = λ design of.
       let top = c.top-item.result in
-      let f = λ (t : Specialization). subtree design 64 1 (top_path t) t in
+      let f = λ (t : Spec). subtree design 64 1 (top_path t) t in
       let within = c.in_ok-enter.ensures.paid design (λ q a h. of q a ((c.tops.invariant.tells q a).1 h)) in
       let here = subst (λ (r : Bool). (r, record { visits = c.enter.new.progress.visits.items; left = c.enter.new.progress.left; asked = g.B.Bodies.asked c.enter.new.bodies }) ≡ pay_all design (subtree design 64 1 (inside (record { steps = c.of.result }) c.in_ok-path.path) top) (record { visits = c.tops.progress.visits.items; left = c.tops.progress.left; asked = g.B.Bodies.asked c.tops.bodies })) c.if-not-branch.false within in
       c.tops.invariant.paid design of ∙ paid_at design f c.items-top-items.result.now c.tops.top-index top (subtree design 64 1 (inside (record { steps = c.of.result }) c.in_ok-path.path) top) _ _ true (omega arith) c.top-item.is (top_part design top c.of.result c.in_ok-path.path (search rules) c.in_ok-path.ensures) here;
   asks = λ design of q h.
       let top = c.top-item.result in
-      let f = λ (t : Specialization). subtree design 64 1 (top_path t) t in
+      let f = λ (t : Spec). subtree design 64 1 (top_path t) t in
       let part = subtree design 64 1 (inside (record { steps = c.of.result }) c.in_ok-path.path) top in
       let within = c.in_ok-enter.ensures.paid design (λ q a h. of q a ((c.tops.invariant.tells q a).1 h)) in
       let here = subst (λ (r : Bool). (r, record { visits = c.enter.new.progress.visits.items; left = c.enter.new.progress.left; asked = g.B.Bodies.asked c.enter.new.bodies }) ≡ pay_all design part (record { visits = c.tops.progress.visits.items; left = c.tops.progress.left; asked = g.B.Bodies.asked c.tops.bodies })) c.if-not-branch.false within in
@@ -55,7 +55,7 @@ returns-in_err-path-clause-halted g c = λ design of. if_err _ (halts_not (g.B.B
 pub returns-in_err-enter-clause-halted : goal.returns-in_err-enter-clause-halted
 returns-in_err-enter-clause-halted g c = λ design of.
     let top = c.top-item.result in
-    let f = λ (t : Specialization). subtree design 64 1 (top_path t) t in
+    let f = λ (t : Spec). subtree design 64 1 (top_path t) t in
     let part = subtree design 64 1 (inside (record { steps = c.of.result }) c.in_ok-path.path) top in
     if_err _ (halts_in (g.B.Bodies.tells c.args.bodies.now) _ (walk_asks design c.args.budget) (bodies_asked design c.tops.progress.left part) _ _ _ c.tops.invariant.tells c.tops.invariant.not_halted
     (λ q h. later_in OfTops q (bodies_asked design c.args.budget (instances design))
@@ -64,11 +64,11 @@ returns-in_err-enter-clause-halted g c = λ design of.
 
 pub returns-clause-walk : goal.returns-clause-walk
 returns-clause-walk g c = λ design of.
-    let f = λ (t : Specialization). subtree design 64 1 (top_path t) t in
+    let f = λ (t : Spec). subtree design 64 1 (top_path t) t in
     ap Some c.of-2.ensures ∙ walked design _ _ refl (c.tops.invariant.paid design of ∙ paid_end design f c.items-top-items.result.now c.tops.top-index _ (omega arith))
 
 pub returns-clause-asked : goal.returns-clause-asked
 returns-clause-asked g c = λ design of.
-    let f = λ (t : Specialization). subtree design 64 1 (top_path t) t in
+    let f = λ (t : Spec). subtree design 64 1 (top_path t) t in
     asked_for design (instances design) _ _ true (c.tops.invariant.paid design of ∙ paid_end design f c.items-top-items.result.now c.tops.top-index _ (omega arith))
     ∙ asked_further OfTops (bodies_asked design c.args.budget (instances design)) (g.B.Bodies.asked c.args.bodies.now)

@@ -12,7 +12,7 @@ returns g c =
     let d = c.args.definition.now in
     let packages = c.args.packages.now in
     let designs = c.args.designs.now in
-    let inside = body_in c.args.extent packages c.as_slice.result.now designs c.values_of.result.now c.in_ok-contents.contents d in
+    let inside = body_in c.args.extent packages c.as_slice.result.now designs c.items.result.now c.in_ok-contents.contents d in
     ends s g.met.W.Look.keeps_itself g.met.W.Look.keeps_on c.body_in.new.world c.body_in.new.fuel inside _
     (rests s g.met.W.Look.keeps_itself g.met.W.Look.keeps_on inside (begins s g.met.W.Look.keeps_itself g.met.W.Look.keeps_on c.args.world.now c.args.fuel.now (within c.args.extent packages designs c.args.spec.now c.args.def.now c.args.elements.now c.args.own.now d) c.requires)
-    (begun_by c.args.extent packages _ c.as_slice.result.now designs _ c.values_of.result.now _ c.in_ok-contents.contents d c.as_slice.ensures.value c.values_of.ensures c.in_ok-contents.ensures)) c.body_in.ensures
+    (begun_by c.args.extent packages _ c.as_slice.result.now designs _ c.items.result.now _ c.in_ok-contents.contents d c.as_slice.ensures.value c.items.ensures c.in_ok-contents.ensures)) c.body_in.ensures

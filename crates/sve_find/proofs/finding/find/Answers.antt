@@ -3,7 +3,7 @@ use Rattle.std.proofs.Common.{◌≡◌, ◌∷◌, None, Some, List, drop, ap, 
 use Rattle.std.specs.Prelude.{IfOk, option_map}
 use Rattle.std.specs.List as list
 use Rattle.sve_bytes.specs.declared.path.Step.{Step}
-use Rattle.sve_spec.specs.Specialization.{Specialization}
+use Rattle.sve_spec.specs.declared.spec.Spec.{Spec}
 use Rattle.sve_facts.specs.Bodies.{OfTops}
 use Rattle.sve_design.proofs.Asked.{first_in, halts_at, if_err}
 use Rattle.sve_design.specs.Paying.{bodies_asked}
@@ -36,7 +36,7 @@ pub returns-clause-find : goal.returns-clause-find
 returns-clause-find g c = λ design of.
     let steps = c.args.path.now.steps in
     let tops : c.items.result.now ≡ design.tops = c.items.ensures ∙ of OfTops _ c.in_ok-tops.ensures.found in
-    let top : Specialization = c.in-Some.top.now in
+    let top : Spec = c.in-Some.top.now in
     let found : Some top ≡ list.find (names_top c.items-steps.result.now) c.items.result.now = subst (λ o. option_map (λ r. r.now) o ≡ list.find (names_top c.items-steps.result.now) c.items.result.now) c.in-Some.is c.top_of.ensures in
     let named : Some top ≡ list.find (names_top steps) design.tops = found ∙ ap (list.find (names_top c.items-steps.result.now)) tops ∙ ap (λ (s : List Step). list.find (names_top s) design.tops) c.items-steps.ensures in
     let whole = top_way design c.args.path.now c.in_ok-first-in-Some.first top c.behind-rest.result.now named c.in_ok-first-in-Some.ensures (c.behind-rest.ensures ∙ ap (λ (s : List Step). drop 1 s) c.items-steps.ensures) in
@@ -46,7 +46,7 @@ pub returns-clause-asked : goal.returns-clause-asked
 returns-clause-asked g c = λ design of.
     let steps = c.args.path.now.steps in
     let tops : c.items.result.now ≡ design.tops = c.items.ensures ∙ of OfTops _ c.in_ok-tops.ensures.found in
-    let top : Specialization = c.in-Some.top.now in
+    let top : Spec = c.in-Some.top.now in
     let found : Some top ≡ list.find (names_top c.items-steps.result.now) c.items.result.now = subst (λ o. option_map (λ r. r.now) o ≡ list.find (names_top c.items-steps.result.now) c.items.result.now) c.in-Some.is c.top_of.ensures in
     let named : Some top ≡ list.find (names_top steps) design.tops = found ∙ ap (list.find (names_top c.items-steps.result.now)) tops ∙ ap (λ (s : List Step). list.find (names_top s) design.tops) c.items-steps.ensures in
     let whole = top_way design c.args.path.now c.in_ok-first-in-Some.first top c.behind-rest.result.now named c.in_ok-first-in-Some.ensures (c.behind-rest.ensures ∙ ap (λ (s : List Step). drop 1 s) c.items-steps.ensures) in
@@ -56,7 +56,7 @@ pub returns-clause-halted : goal.returns-clause-halted
 returns-clause-halted g c = λ design of.
     let steps = c.args.path.now.steps in
     let tops : c.items.result.now ≡ design.tops = c.items.ensures ∙ of OfTops _ c.in_ok-tops.ensures.found in
-    let top : Specialization = c.in-Some.top.now in
+    let top : Spec = c.in-Some.top.now in
     let found : Some top ≡ list.find (names_top c.items-steps.result.now) c.items.result.now = subst (λ o. option_map (λ r. r.now) o ≡ list.find (names_top c.items-steps.result.now) c.items.result.now) c.in-Some.is c.top_of.ensures in
     let named : Some top ≡ list.find (names_top steps) design.tops = found ∙ ap (list.find (names_top c.items-steps.result.now)) tops ∙ ap (λ (s : List Step). list.find (names_top s) design.tops) c.items-steps.ensures in
     let whole = top_way design c.args.path.now c.in_ok-first-in-Some.first top c.behind-rest.result.now named c.in_ok-first-in-Some.ensures (c.behind-rest.ensures ∙ ap (λ (s : List Step). drop 1 s) c.items-steps.ensures) in

@@ -14,10 +14,11 @@ returns c =
     let list = c.args.list.now in
     let ws = c.args.words.now in
     let port = c.args.port.now in
+    let faces = c.args.faces.now in
     let written = c.written_at-written.ensures in
     let from = c.separator-from.ensures ∙ ap (λ (commas : List ℕ). separator commas list.closing c.args.place) c.as_slice.ensures.value in
-    subst (λ (ty : DataType). IfOk c.come_in.result (λ p. p ≡ come_in ws (in_front_at ws ty c.args.passed (slice_get list.ports.items.items c.args.place)) port.token (what_of port) (separator list.ports.separators.items list.closing c.args.place))) c.ty.ensures
-    (subst (λ (o : Option WrittenPort). IfOk c.come_in.result (λ p. p ≡ come_in ws (in_front_at ws c.ty.result.now c.args.passed o) port.token (what_of port) (separator list.ports.separators.items list.closing c.args.place))) written
-    (subst (λ (q : Passed). IfOk c.come_in.result (λ p. p ≡ come_in ws q port.token (what_of port) (separator list.ports.separators.items list.closing c.args.place))) c.in_ok-passed.ensures
+    subst (λ (ty : DataType). IfOk c.come_in.result (λ p. p ≡ come_in ws (in_front_at ws ty c.args.passed (slice_get list.ports.items.items c.args.place)) port.token (what_of faces port) (separator list.ports.separators.items list.closing c.args.place))) c.ty.ensures
+    (subst (λ (o : Option WrittenPort). IfOk c.come_in.result (λ p. p ≡ come_in ws (in_front_at ws c.ty.result.now c.args.passed o) port.token (what_of faces port) (separator list.ports.separators.items list.closing c.args.place))) written
+    (subst (λ (q : Passed). IfOk c.come_in.result (λ p. p ≡ come_in ws q port.token (what_of faces port) (separator list.ports.separators.items list.closing c.args.place))) c.in_ok-passed.ensures
     (subst (λ (w : What). IfOk c.come_in.result (λ p. p ≡ come_in ws c.in_ok-passed.passed port.token w (separator list.ports.separators.items list.closing c.args.place))) c.in_ok-what.ensures
     (subst (λ (f : ℕ). IfOk c.come_in.result (λ p. p ≡ come_in ws c.in_ok-passed.passed port.token c.in_ok-what.what f)) from c.come_in.ensures))))

@@ -7,7 +7,6 @@ use Rattle.sve_design.specs.Walk.{inside, subtree}
 use Rattle.sve_design.specs.Paying.{bodies_asked}
 use Rattle.sve_design.proofs.Asked.{asks_below, asks_itself, asks_one, halts_at, halts_in, if_err}
 use Rattle.sve_survey.specs.Seen.{child_visit, seen_below}
-use Rattle.sve_survey.specs.Visitors.{having_seen}
 use Rattle.sve_survey.specs.Showing.{show_all}
 use Rattle.sve_survey.proofs.Shows.{entered, progress_is, shown_at, child_part, child_tree, asks_rest}
 use Rattle.sve_survey.proofs.surveying.+enter.Goals as goal
@@ -21,13 +20,13 @@ children-init g t c = record {
   shown = λ design of.
       let fuel = c.args.left.now - 1 in
       let told = subst (λ b. body_value b ≡ answer_of design (OfBody c.args.visit.now.spec fuel)) c.in-Done.is (of (OfBody c.args.visit.now.spec fuel) _ c.in_ok-body.ensures.found) in
-      let children : c.items-child-items.result.now ≡ (arc_value c.in-Done.facts).children = c.items-child-items.ensures ∙ ap (λ (f : Facts). f.children) c.deref-2.ensures in
+      let children : c.items-child-items.result.now ≡ (arc_value c.in-Done.facts).children = c.items-child-items.ensures ∙ ap (λ (f : Facts). f.children) c.deref.ensures in
       entered design c.args.levels (c.args.levels - 1) fuel c.args.visit.now c.args.unconnected.now (arc_value c.in-Done.facts) c.in-Done.cost c.items-child-items.result.now _ _ (omega arith) (omega arith) told children
-      (progress_is _ _ _ _ _ _ (c.in_ok-visit.ensures ∙ ap (λ (f : Facts). having_seen (record { visit = c.args.visit.now; unconnected = c.args.unconnected.now; facts = f }) (g.V.Visitor.state c.args.visitor.now)) c.deref.ensures) refl c.in_ok-body.ensures.asked);
+      (progress_is _ _ _ _ _ _ c.in_ok-visit.ensures refl c.in_ok-body.ensures.asked);
   asks = λ design of q h.
       let fuel = c.args.left.now - 1 in
       let told = subst (λ b. body_value b ≡ answer_of design (OfBody c.args.visit.now.spec fuel)) c.in-Done.is (of (OfBody c.args.visit.now.spec fuel) _ c.in_ok-body.ensures.found) in
-      let children : c.items-child-items.result.now ≡ (arc_value c.in-Done.facts).children = c.items-child-items.ensures ∙ ap (λ (f : Facts). f.children) c.deref-2.ensures in
+      let children : c.items-child-items.result.now ≡ (arc_value c.in-Done.facts).children = c.items-child-items.ensures ∙ ap (λ (f : Facts). f.children) c.deref.ensures in
       asks_below design c.args.levels (c.args.levels - 1) c.args.visit.now.depth c.args.left.now fuel c.args.visit.now.path c.args.visit.now.spec (arc_value c.in-Done.facts) c.in-Done.cost c.items-child-items.result.now q (omega arith) (omega arith) told children h;
 }
 

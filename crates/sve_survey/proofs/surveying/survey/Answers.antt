@@ -1,5 +1,5 @@
 use Rattle.std.proofs.Common.{◌≡◌, Bool, true, false, [], ◌∙◌, subst, arith}
-use Rattle.sve_spec.specs.Specialization.{Specialization}
+use Rattle.sve_spec.specs.declared.spec.Spec.{Spec}
 use Rattle.sve_facts.specs.Bodies.{OfTops}
 use Rattle.sve_design.specs.Walk.{subtree, top_path, instances}
 use Rattle.sve_design.specs.Paying.{bodies_asked, walk_asks}
@@ -15,7 +15,7 @@ pub returns-then-not-branch-clause-enough : goal.returns-then-not-branch-clause-
 returns-then-not-branch-clause-enough g c = λ design of.
     let top = c.top-item.result in
     let visit = c.in_ok-visit.visit in
-    let f = λ (t : Specialization). seen_below design 64 (top_visit t) [] in
+    let f = λ (t : Spec). seen_below design 64 (top_visit t) [] in
     let within = c.in_ok-enter.ensures.shown design (λ q a h. of q a ((c.tops.invariant.tells q a).1 h)) in
     let here = subst (λ (r : Bool). (r, record { visitor = g.V.Visitor.state c.enter.new.visitor; left = c.enter.new.left; asked = g.B.Bodies.asked c.enter.new.bodies }) ≡ show_all design (seen_below design 64 visit []) (record { visitor = g.V.Visitor.state c.tops.visitor; left = c.tops.left; asked = g.B.Bodies.asked c.tops.bodies })) c.if-not-branch.true within in
     is_enough design _ _ false
@@ -25,7 +25,7 @@ pub returns-then-not-branch-clause-asked : goal.returns-then-not-branch-clause-a
 returns-then-not-branch-clause-asked g c = λ design of.
     let top = c.top-item.result in
     let visit = c.in_ok-visit.visit in
-    let f = λ (t : Specialization). seen_below design 64 (top_visit t) [] in
+    let f = λ (t : Spec). seen_below design 64 (top_visit t) [] in
     let within = c.in_ok-enter.ensures.shown design (λ q a h. of q a ((c.tops.invariant.tells q a).1 h)) in
     let here = subst (λ (r : Bool). (r, record { visitor = g.V.Visitor.state c.enter.new.visitor; left = c.enter.new.left; asked = g.B.Bodies.asked c.enter.new.bodies }) ≡ show_all design (seen_below design 64 visit []) (record { visitor = g.V.Visitor.state c.tops.visitor; left = c.tops.left; asked = g.B.Bodies.asked c.tops.bodies })) c.if-not-branch.true within in
     asked_for design _ _ false
@@ -36,7 +36,7 @@ pub returns-then-not-branch-clause-spent : goal.returns-then-not-branch-clause-s
 returns-then-not-branch-clause-spent g c = λ design of spent.
     let top = c.top-item.result in
     let visit = c.in_ok-visit.visit in
-    let f = λ (t : Specialization). seen_below design 64 (top_visit t) [] in
+    let f = λ (t : Spec). seen_below design 64 (top_visit t) [] in
     let within = c.in_ok-enter.ensures.shown design (λ q a h. of q a ((c.tops.invariant.tells q a).1 h)) in
     let here = subst (λ (r : Bool). (r, record { visitor = g.V.Visitor.state c.enter.new.visitor; left = c.enter.new.left; asked = g.B.Bodies.asked c.enter.new.bodies }) ≡ show_all design (seen_below design 64 visit []) (record { visitor = g.V.Visitor.state c.tops.visitor; left = c.tops.left; asked = g.B.Bodies.asked c.tops.bodies })) c.if-not-branch.true within in
     first_seen design _ _
@@ -51,14 +51,14 @@ tops-preserved g c = record {
   shown = λ design of.
       let top = c.top-item.result in
       let visit = c.in_ok-visit.visit in
-      let f = λ (t : Specialization). seen_below design 64 (top_visit t) [] in
+      let f = λ (t : Spec). seen_below design 64 (top_visit t) [] in
       let within = c.in_ok-enter.ensures.shown design (λ q a h. of q a ((c.tops.invariant.tells q a).1 h)) in
       let here = subst (λ (r : Bool). (r, record { visitor = g.V.Visitor.state c.enter.new.visitor; left = c.enter.new.left; asked = g.B.Bodies.asked c.enter.new.bodies }) ≡ show_all design (seen_below design 64 visit []) (record { visitor = g.V.Visitor.state c.tops.visitor; left = c.tops.left; asked = g.B.Bodies.asked c.tops.bodies })) c.if-not-branch.false within in
       c.tops.invariant.shown design of ∙ shown_at design f c.items-top-items.result.now c.tops.top-index top (seen_below design 64 visit []) _ _ true (omega arith) c.top-item.is (top_part design top visit c.in_ok-visit.ensures) here;
   asks = λ design of q h.
       let top = c.top-item.result in
       let visit = c.in_ok-visit.visit in
-      let f = λ (t : Specialization). subtree design 64 1 (top_path t) t in
+      let f = λ (t : Spec). subtree design 64 1 (top_path t) t in
       let within = c.in_ok-enter.ensures.shown design (λ q a h. of q a ((c.tops.invariant.tells q a).1 h)) in
       let here = subst (λ (r : Bool). (r, record { visitor = g.V.Visitor.state c.enter.new.visitor; left = c.enter.new.left; asked = g.B.Bodies.asked c.enter.new.bodies }) ≡ show_all design (seen_below design 64 visit []) (record { visitor = g.V.Visitor.state c.tops.visitor; left = c.tops.left; asked = g.B.Bodies.asked c.tops.bodies })) c.if-not-branch.false within in
       c.tops.invariant.asks design of q (asks_rest design f c.items-top-items.result.now c.tops.top-index top 64 visit [] _ _ q (omega arith) c.top-item.is (top_tree design top visit c.in_ok-visit.ensures) here h);
@@ -71,7 +71,7 @@ pub returns-in_err-enter-clause-halted : goal.returns-in_err-enter-clause-halted
 returns-in_err-enter-clause-halted g c = λ design of.
     let top = c.top-item.result in
     let visit = c.in_ok-visit.visit in
-    let f = λ (t : Specialization). subtree design 64 1 (top_path t) t in
+    let f = λ (t : Spec). subtree design 64 1 (top_path t) t in
     let part = subtree design 64 visit.depth visit.path visit.spec in
     if_err _ (halts_in (g.B.Bodies.tells c.args.bodies.now) _ (walk_asks design c.args.budget) (bodies_asked design c.tops.left part) _ _ _ c.tops.invariant.tells c.tops.invariant.not_halted
     (λ q h. later_in OfTops q (bodies_asked design c.args.budget (instances design))
@@ -80,16 +80,16 @@ returns-in_err-enter-clause-halted g c = λ design of.
 
 pub returns-clause-enough : goal.returns-clause-enough
 returns-clause-enough g c = λ design of.
-    let f = λ (t : Specialization). seen_below design 64 (top_visit t) [] in
+    let f = λ (t : Spec). seen_below design 64 (top_visit t) [] in
     is_enough design _ _ true (c.tops.invariant.shown design of ∙ shown_end design f c.items-top-items.result.now c.tops.top-index _ (omega arith))
 
 pub returns-clause-seen : goal.returns-clause-seen
 returns-clause-seen g c = λ design of enough.
-    let f = λ (t : Specialization). seen_below design 64 (top_visit t) [] in
+    let f = λ (t : Spec). seen_below design 64 (top_visit t) [] in
     all_seen design _ _ (c.tops.invariant.shown design of ∙ shown_end design f c.items-top-items.result.now c.tops.top-index _ (omega arith))
 
 pub returns-clause-asked : goal.returns-clause-asked
 returns-clause-asked g c = λ design of.
-    let f = λ (t : Specialization). seen_below design 64 (top_visit t) [] in
+    let f = λ (t : Spec). seen_below design 64 (top_visit t) [] in
     asked_for design _ _ true (c.tops.invariant.shown design of ∙ shown_end design f c.items-top-items.result.now c.tops.top-index _ (omega arith))
     ∙ asked_further OfTops (bodies_asked design c.args.budget (instances design)) (g.B.Bodies.asked c.args.bodies.now)

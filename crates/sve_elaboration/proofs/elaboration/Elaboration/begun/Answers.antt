@@ -1,4 +1,5 @@
 use Rattle.std.proofs.Common.{◌≡◌, Bool, true, false, not, is_some, refl, ap, ◌∙◌}
+use Rattle.sve_contents.specs.Reading.{without_dotted}
 use Rattle.sve_nested.specs.Blocks.{begun}
 use Rattle.sve_elaboration.proofs.elaboration.Elaboration.begun.Goals as goal
 
@@ -16,10 +17,11 @@ returns c = λ i. record {
   given = c.args.given.now;
   is_open = flipped (is_some c.args.definition.now.header.parameters) c.is_none.result c.is_none.ensures i;
   place = 0;
-  nested = (c.in_ok-nested.ensures ∙ ap (begun c.args.contents) c.in_ok-ahead.ensures) i;
+  nested = (c.in_ok-nested.ensures ∙ ap (begun (without_dotted c.args.contents)) c.in_ok-ahead.ensures) i;
   overrides = (c.of.ensures ∙ c.new.ensures.items) i;
   values = c.new-2.ensures.items i;
   ports = (c.of-2.ensures ∙ c.new-3.ensures.items) i;
   children = c.new-4.ensures.items i;
   nets = c.new-5.ensures.items i;
+  hierarchical = c.new-6.ensures.items i;
 }

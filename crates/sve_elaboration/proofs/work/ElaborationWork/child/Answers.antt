@@ -20,6 +20,7 @@ returns c =
       ports = inside.ports;
       children = inside.children.items;
       nets = inside.nets.items;
+      hierarchical = inside.hierarchical.items;
     } in
     let now = c.args.self.now in
     let seen : found ≡ now = c.self.view_is in
